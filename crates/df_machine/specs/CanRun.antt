@@ -1,0 +1,51 @@
+-- What the machine needs of its cells and inputs.
+use Rattle.std.specs.Prelude.{◌≡◌, ◌⊎◌, ◌<◌, ◌≤◌, ◌+◌, ℕ, ℤ, pos, ◌+ℤ◌, true, cond, List, length, Some}
+use Rattle.std.specs.List.{count_by, AllByRecursion}
+use Rattle.df_values.specs.declared.values.Value.{Value}
+use Rattle.df_values.specs.declared.values.Basic.{Basic}
+use Rattle.df_values.specs.Values.{IsOrdinary}
+use Rattle.df_machine.specs.declared.cells.CellId.{CellId}
+use Rattle.df_machine.specs.declared.cells.Dest.{Dest}
+use Rattle.df_machine.specs.declared.cells.Cell.{Cell}
+use Rattle.df_machine.specs.declared.cells.Kind.TheVariants as kind
+use Rattle.df_machine.specs.Kinds.{Operands, port_count, HasCanonicalRuns, source_length, wants}
+use Rattle.df_machine.specs.Cells.{cell_at, port_of, same_port, producer_of, is_from, inputs_before, values_of, outputs_before}
+
+-- a cell has as many ports as its kind, and runs are canonical
+pub record IsCell (cell : Cell) : Type 0 where
+  pub ports : length cell.ports ≡ port_count cell.kind
+  pub runs : HasCanonicalRuns cell.kind
+
+-- The destinations of u are the ports that u feeds, each once.
+pub record HasDests (cells : List Cell) (u : ℕ) : Type 0 where
+  pub each : AllByRecursion (λ d. is_from u (producer_of cells d) ≡ true) (cell_at cells u).dests
+  pub once : (d : Dest) → count_by (same_port d) (cell_at cells u).dests ≡ cond (is_from u (producer_of cells d)) 1 0
+
+-- the cell is a source, and gives so many values at most
+pub record IsSource (cells : List Cell) (c : ℕ) : Type 0 where
+  pub most : ℕ
+  pub bound : source_length (cell_at cells c).kind ≡ Some most
+  pub small : most ≤ 65536
+
+-- each firing of the cell takes an operand from an arc
+pub record IsDriven (cells : List Cell) (c : ℕ) : Type 0 where
+  pub port : ℕ
+  pub from : CellId
+  pub fed : producer_of cells (port_of c port) ≡ Some from
+  pub always : (x : Operands) → wants (cell_at cells c).kind x port ≡ true
+
+-- the cells can be run
+pub record CanRun (cells : List Cell) : Type 0 where
+  pub few : length cells ≤ 65536
+  pub shaped : (c : ℕ) → c < length cells → IsCell (cell_at cells c)
+  pub dests : (u : ℕ) → HasDests cells u
+  pub control : (c : ℕ) → c < length cells → IsSource cells c ⊎ IsDriven cells c
+  -- each value of an IDX is ordinary
+  pub indexed : (c : ℕ) (lo : ℤ) (n j : ℕ) → (cell_at cells c).kind ≡ kind.Idx lo n → j < n → IsOrdinary (lo +ℤ pos j)
+  -- the OUT cells have the numbers 1, 2 and so on, in the order of the cells
+  pub numbered : (c k m : ℕ) → (cell_at cells c).kind ≡ kind.Out k m → k ≡ outputs_before cells c + 1
+
+-- inputs fit cells: one list for each IN cell, with as many values as it declares
+pub record Fits (cells : List Cell) (inputs : List (List Value)) : Type 0 where
+  pub count : length inputs ≡ inputs_before cells (length cells)
+  pub lengths : (c n : ℕ) (name : List ℕ) (basic : Basic) → (cell_at cells c).kind ≡ kind.In name basic n → length (values_of cells inputs c) ≡ n

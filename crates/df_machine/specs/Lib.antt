@@ -1,0 +1,16 @@
+pub mod Kinds
+pub mod Cells
+pub mod CanRun
+pub mod States
+pub mod Events
+pub mod Runs
+pub mod Schedules
+pub mod Reports
+pub mod Sound
+pub mod Histories
+pub mod Laws
+pub mod Seen
+pub mod Turns
+pub mod ThreeCells
+pub mod CellText
+pub mod Rows
