@@ -1,0 +1,5 @@
+use Rattle.df_top.proofs.Readings.{one_verdict}
+use Rattle.df_top.proofs.laws.has_one_verdict.Goals as goal
+
+pub returns : goal.returns
+returns c = one_verdict

@@ -1,0 +1,5 @@
+use Rattle.df_top.proofs.Readings.{some_verdict}
+use Rattle.df_top.proofs.laws.has_some_verdict.Goals as goal
+
+pub returns : goal.returns
+returns c = some_verdict

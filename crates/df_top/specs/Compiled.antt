@@ -1,0 +1,43 @@
+-- What the cells of a program promise, and what a task may therefore write.
+use Rattle.std.specs.Prelude.{◌≡◌, ℕ, List, [], ◌∷◌, length, get_or, codes}
+use Rattle.df_values.specs.declared.values.Value.{Value}
+use Rattle.df_values.specs.Inputs.{AreValid}
+use Rattle.df_machine.specs.declared.cells.Cell.{Cell}
+use Rattle.df_machine.specs.CellText.{cell_text}
+use Rattle.df_machine.specs.Events.{chosen_event}
+use Rattle.df_machine.specs.Histories.{IsPrefix}
+use Rattle.df_machine.specs.Reports.{report}
+use Rattle.df_machine.specs.Runs.{after, IsClash}
+use Rattle.df_machine.specs.Schedules.{choices_of}
+use Rattle.df_machine.specs.ThreeCells.{three_cells}
+use Rattle.df_top.specs.declared.program.Program.{Program}
+use Rattle.df_top.specs.Meanings.{inputs_of, mean}
+use Rattle.df_top.specs.Duals.{dual_text, unit_flow}
+use Rattle.df_top.specs.Reports.{report_text}
+use Rattle.df_top.specs.Effects.{Effect}
+use Rattle.df_top.specs.Verdicts.{Task, Run}
+
+-- For all valid inputs and every list of choices, of any length, no event on the way is a clash, and
+-- each result is a prefix of the same result of the program's meaning.
+pub record IsFaithful (program : Program) (cells : List Cell) : Type 0 where
+  pub no_clash : (inputs : List (List Value)) (choices : List ℕ) (choice : ℕ) → AreValid (inputs_of program) inputs
+      → ¬ IsClash (after cells inputs choices) (chosen_event cells (after cells inputs choices) choice)
+  pub results : (inputs : List (List Value)) (choices : List ℕ) → AreValid (inputs_of program) inputs
+      → length (after cells inputs choices).results ≡ length (mean program inputs)
+  pub prefixes : (inputs : List (List Value)) (choices : List ℕ) (k : ℕ) → AreValid (inputs_of program) inputs
+      → IsPrefix (get_or (after cells inputs choices).results k []) (get_or (mean program inputs) k [])
+
+-- These are the cells of the program: an input, an addition and an output in a row.
+pub record IsCompiled (program : Program) (cells : List Cell) : Type 0 where
+  pub skeleton : cells ≡ three_cells (codes "A") program.elements program.addend
+  pub faithful : IsFaithful program cells
+
+-- What may be written for a task. One list of cells stands for the files, the text and the status.
+abbrev pub MayDo : Task → Effect → Type 0
+MayDo (Run program inputs schedule cells_name dual_name) effect =
+    (cells : List Cell) × IsCompiled program cells
+    × (effect ≡ record {
+      files = (cells_name, cell_text cells) ∷ (dual_name, dual_text unit_flow) ∷ [];
+      text = report_text (report cells inputs (choices_of schedule));
+      is_done = (report cells inputs (choices_of schedule)).drained;
+    })

@@ -1,0 +1,21 @@
+-- What is promised of the cells of every program, and of the verdict.
+use Rattle.std.specs.Prelude.{◌≡◌, codes}
+use Rattle.df_io.specs.Told.{Holds}
+use Rattle.df_machine.specs.ThreeCells.{three_cells}
+use Rattle.df_top.specs.Compiled.{IsFaithful}
+use Rattle.df_top.specs.Orders.{Order}
+use Rattle.df_top.specs.Ready.{IsWithin}
+use Rattle.df_top.specs.Verdicts.{Verdict, Judges}
+use Rattle.df_top.specs.declared.program.Program.{Program}
+
+-- the cells of each program are faithful to it
+abbrev pub AlwaysFaithful : Type 0
+AlwaysFaithful = (program : Program) → IsWithin program → IsFaithful program (three_cells (codes "A") program.elements program.addend)
+
+-- two verdicts on one command and the same files are the same
+abbrev pub HasOneVerdict : Type 0
+HasOneVerdict = (order : Order) (holds : Holds) (v w : Verdict) → Judges order holds v → Judges order holds w → v ≡ w
+
+-- it can't be that there is none
+abbrev pub HasSomeVerdict : Type 0
+HasSomeVerdict = (order : Order) (holds : Holds) → ¬ ((v : Verdict) → ¬ Judges order holds v)

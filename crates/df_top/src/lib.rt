@@ -1,0 +1,31 @@
+//! The commands: what is read and refused, what is written, and with which status a call ends.
+//!
+//! `valflow` is the top call. It reads and judges all texts first (`command`, `judge` and the readers of texts below it), then
+//! compiles and runs (`planned`), and writes last (`writes`). Its contract says, of the bytes under each name, which status comes
+//! exactly when, and what stands then.
+#![tactic(auto)]
+
+pub mod cell_text;
+mod command;
+pub mod compile;
+pub mod dual_text;
+mod input;
+mod judge;
+pub mod laws;
+mod plan;
+mod planned;
+pub mod program;
+pub mod report;
+mod scanner;
+mod schedule_text;
+mod source;
+mod status;
+mod stop;
+mod top;
+mod writes;
+
+pub use status::Status;
+pub use top::valflow;
+
+#[cfg(test)]
+mod tests;

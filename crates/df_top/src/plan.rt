@@ -1,0 +1,33 @@
+//! What a command asks for, and what it writes.
+use crate::program::Program;
+use df_machine::schedules::Schedule;
+use df_values::bytes::Bytes;
+use df_values::streams::Streams;
+
+/// What the texts of a command ask for, once none of them is refused.
+#[derive(Drop)]
+pub enum Task<'a> {
+    /// Compile the program, and run its cells on the inputs by the schedule.
+    Run {
+        program: Program,
+        inputs: Streams,
+        schedule: Schedule,
+        cells: &'a String,
+        dual: &'a String,
+    },
+}
+
+/// A file that is to be made, with its bytes.
+#[derive(Drop)]
+pub struct NewFile<'a> {
+    pub name: &'a String,
+    pub bytes: Bytes,
+}
+
+/// What a command writes: the files in order, then the text to the sink; and whether it ends in `Done`.
+#[derive(Drop)]
+pub struct Plan<'a> {
+    pub files: Vec<NewFile<'a>>,
+    pub text: Bytes,
+    pub is_done: bool,
+}

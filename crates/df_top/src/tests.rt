@@ -1,0 +1,219 @@
+use crate::{Status, valflow};
+use df_io::{MemFiles, MemSink};
+use std::alloc::Global;
+use std::test::Fail;
+
+const ONE: &str =
+    "range A [1, 1];\nfunction f (A: array[integer] returns array[integer]) forall i in [1, 1] construct A[i] + 1 endall endfun\n";
+
+const CELLS: &str =
+    "dataflow 1 3\n0 IN A integer 1 stage 0 loop 0 ports dests 1.0\n1 ADD stage 1 loop 0 ports @0 =1 dests 2.0\n2 OUT 1 1 stage 2 loop 0 ports @1 dests\nend\n";
+
+const DUAL: &str = "dual 1 2\n1.0 1\n2.0 1\nend\n";
+
+const DRAINED: &str = "drained\nevents 10\nresult 1 = 6\nfired 1 1 1\n";
+
+const USAGE: &str = "usage: valflow COMMAND ARGUMENTS\n";
+
+// What stands after a call.
+#[derive(Debug, Drop)]
+struct Outcome {
+    status: Status,
+    out: Vec<u8>,
+    cells: Option<Vec<u8>>,
+    dual: Option<Vec<u8>>,
+}
+
+fn words_of(alloc: Global, text: &str) -> Result<Vec<String>, Fail> {
+    let mut words = Vec::new(alloc);
+    for word in text.split_whitespace() {
+        words.push(String::from_str(alloc, word)?)?;
+    }
+    Ok(words)
+}
+
+fn copied(alloc: Global, bytes: Option<&[u8]>) -> Result<Option<Vec<u8>>, Fail> {
+    match bytes {
+        Some(bytes) => Ok(Some(bytes.to_vec(alloc)?)),
+        None => Ok(None),
+    }
+}
+
+// Runs a command over the files P, I and S, with these calls failing.
+fn run_command(
+    alloc: Global,
+    words: &str,
+    texts: [&str; 3],
+    fails: Vec<u64>,
+    sink_fails: Vec<u64>,
+) -> Result<Outcome, Fail> {
+    let words = words_of(alloc, words)?;
+    let [program, input, schedule] = texts;
+    let mut files = MemFiles::new(alloc, fails);
+    files.add(
+        String::from_str(alloc, "P")?,
+        program.as_bytes().to_vec(alloc)?,
+    )?;
+    files.add(
+        String::from_str(alloc, "I")?,
+        input.as_bytes().to_vec(alloc)?,
+    )?;
+    files.add(
+        String::from_str(alloc, "S")?,
+        schedule.as_bytes().to_vec(alloc)?,
+    )?;
+    let mut out = MemSink::new(alloc, sink_fails);
+    let status = valflow(alloc, &words, &mut files, &mut out);
+    Ok(Outcome {
+        status,
+        out: out.contents().to_vec(alloc)?,
+        cells: copied(alloc, files.contents(&String::from_str(alloc, "C")?))?,
+        dual: copied(alloc, files.contents(&String::from_str(alloc, "D")?))?,
+    })
+}
+
+#[test]
+fn a_drained_run_writes_everything(rt: HostRuntime) -> Result<(), Fail> {
+    let alloc = rt.alloc();
+    let schedules = [
+        "drain 100\n",
+        "drain 100",
+        "4294967295 7 drain 100\n",
+        "0 drain 9\n",
+    ];
+    for schedule in schedules {
+        let texts = [ONE, "A = 5\n", schedule];
+        let found = run_command(
+            alloc,
+            "go P I S C D",
+            texts,
+            Vec::new(alloc),
+            Vec::new(alloc),
+        )?;
+        assert_eq!(rt; found.status, Status::Done, "at {schedule}");
+        assert_eq!(rt; found.out.as_slice(), DRAINED.as_bytes());
+        assert_eq!(rt; found.cells.ok_or("no cells")?.as_slice(), CELLS.as_bytes());
+        assert_eq!(rt; found.dual.ok_or("no dual")?.as_slice(), DUAL.as_bytes());
+    }
+    Ok(())
+}
+
+#[test]
+fn statuses_and_lines(rt: HostRuntime) -> Result<(), Fail> {
+    let alloc = rt.alloc();
+    let rows = [
+        (
+            "go P I S C D",
+            [ONE, "A = 5\n", "0 0 0\n"],
+            Status::Stopped,
+            "stopped\nevents 3\nresult 1 =\nfired 1 0 0\n",
+        ),
+        (
+            "go P I S C D",
+            [ONE, "A = 5\n", ""],
+            Status::Stopped,
+            "stopped\nevents 0\nresult 1 =\nfired 0 0 0\n",
+        ),
+        (
+            "go P I S C D",
+            [ONE, "A = 2147483647", "drain 10"],
+            Status::Done,
+            "drained\nevents 10\nresult 1 = pos_over\nfired 1 1 1\n",
+        ),
+        (
+            "go P I S C D",
+            ["", "A = 5\n", "0"],
+            Status::Refused,
+            "refused NotBuilt source\n",
+        ),
+        (
+            "go P I S C D",
+            [ONE, "A = 5 6\n", "00"],
+            Status::Refused,
+            "refused NotBuilt input\n",
+        ),
+        (
+            "go P I S C D",
+            [ONE, "A = 05\n", "0"],
+            Status::Refused,
+            "refused NotBuilt input\n",
+        ),
+        (
+            "go P I S C D",
+            [ONE, "A = -0\n", "0"],
+            Status::Refused,
+            "refused NotBuilt input\n",
+        ),
+        (
+            "go P I S C D",
+            [ONE, "A = 5\n", "00"],
+            Status::Refused,
+            "refused NotBuilt schedule\n",
+        ),
+        (
+            "go P I S C D",
+            [ONE, "A = 5\n", "0 drain"],
+            Status::Refused,
+            "refused NotBuilt schedule\n",
+        ),
+        (
+            "go P I S C D",
+            [ONE, "A = 5\n", "drain 1000000001"],
+            Status::Refused,
+            "refused NotBuilt schedule\n",
+        ),
+        ("go P I S X X", [ONE, "A = 5\n", "0"], Status::Usage, USAGE),
+        ("go P I S P D", [ONE, "A = 5\n", "0"], Status::Usage, USAGE),
+        ("run C I S", [ONE, "A = 5\n", "0"], Status::Usage, USAGE),
+        ("", [ONE, "A = 5\n", "0"], Status::Usage, USAGE),
+        ("go P J S C D", [ONE, "A = 5\n", "0"], Status::ReadFault, ""),
+    ];
+    for (words, texts, status, out) in rows {
+        let found = run_command(alloc, words, texts, Vec::new(alloc), Vec::new(alloc))?;
+        assert_eq!(rt; found.status, status, "at {words}");
+        assert_eq!(rt; found.out.as_slice(), out.as_bytes(), "at {words}");
+        let has_run = status == Status::Done || status == Status::Stopped;
+        assert_eq!(rt; found.cells.is_some(), has_run, "at {words}");
+        assert_eq!(rt; found.dual.is_some(), has_run, "at {words}");
+    }
+    Ok(())
+}
+
+// The calls are open, read, read and close for each text, and then create, write and close for each file.
+#[test]
+fn each_call_of_the_files_fails(rt: HostRuntime) -> Result<(), Fail> {
+    let alloc = rt.alloc();
+    for call in 0..19u64 {
+        let fails = vec![in alloc; call]?;
+        let texts = [ONE, "A = 5\n", "drain 100\n"];
+        let found = run_command(alloc, "go P I S C D", texts, fails, Vec::new(alloc))?;
+        let status = if call < 12 {
+            Status::ReadFault
+        } else if call < 18 {
+            Status::WriteFault
+        } else {
+            Status::Done
+        };
+        assert_eq!(rt; found.status, status, "at {call}");
+        assert_eq!(rt; found.cells.is_some(), call > 12, "at {call}");
+        assert_eq!(rt; found.dual.is_some(), call > 15, "at {call}");
+        assert_eq!(rt; found.out.is_empty(), call < 18, "at {call}");
+    }
+    Ok(())
+}
+
+#[test]
+fn the_sink_fails(rt: HostRuntime) -> Result<(), Fail> {
+    let alloc = rt.alloc();
+    let fails = vec![in alloc; 0]?;
+    let texts = [ONE, "A = 5\n", "drain 100\n"];
+    let found = run_command(alloc, "go P I S C D", texts, Vec::new(alloc), fails)?;
+    assert_eq!(rt; found.status, Status::WriteFault);
+    assert_eq!(rt; found.cells.ok_or("no cells")?.as_slice(), CELLS.as_bytes());
+    assert_eq!(rt; found.dual.ok_or("no dual")?.as_slice(), DUAL.as_bytes());
+    assert_eq!(rt; found.out.is_empty(), true);
+    let fails = vec![in alloc; 0]?;
+    let found = run_command(alloc, "go", texts, Vec::new(alloc), fails)?;
+    assert_eq!(rt; found.status, Status::WriteFault);
+    Ok(())
+}

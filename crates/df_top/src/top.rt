@@ -1,0 +1,134 @@
+//! The top call.
+ghost use Rattle.std.specs.Prelude.{◌≡◌, ◌⊎◌, map, IsTrue, string_bytes};
+ghost use Rattle.df_io.specs.Faults.{Rises, HasWriteCause, HasSinkCause};
+ghost use Rattle.df_io.specs.declared.files.FileMode.{FileMode};
+ghost use Rattle.df_top.specs.Orders.{order_of};
+ghost use Rattle.df_top.specs.Words.{order_meant};
+ghost use Rattle.df_top.specs.Endings.{Ends, FitsWords, Writes};
+ghost use Rattle.df_top.specs.Causes.{IsAbsent, KeepsCounts, Completes, NoFaults};
+ghost use Rattle.df_top.specs.Carried.{StandsFor, IsCarriedOut, ended};
+ghost use Rattle.df_top.specs.Plans.{effect_of};
+
+use crate::command::{Command, command_of};
+use crate::judge::task_of;
+use crate::plan::Plan;
+use crate::planned::plan_for;
+use crate::status::Status;
+use crate::stop::Stop;
+use crate::writes::write_files;
+use df_io::{Fault, FileMode, Files, Sink, write_out};
+use df_values::memory::Memory;
+use std::alloc::Global;
+
+const USAGE: &[u8] = b"usage: valflow COMMAND ARGUMENTS\n";
+
+// The status where the write succeeded, and else why it didn't.
+fn ended(written: Result<(), Fault>, status: Status) -> Status
+    ensures { result ≡ ended written status }
+{
+    match written {
+        Ok(()) => status,
+        Err(Fault::Failed) => Status::WriteFault,
+        Err(Fault::Memory) => Status::Memory,
+    }
+}
+
+// Makes the files, and then writes the text.
+fn carry_out<F: Files, K: Sink>(files: &mut F, out: &mut K, plan: &Plan<'_>) -> Status
+    requires { F.mode files.old ≡ FileMode.Idle }
+    ensures mode { F.mode files.new ≡ FileMode.Idle }
+    ensures stands { IsTrue F.tells → StandsFor (effect_of plan.now) result (IsTrue K.tells)
+        (record { holds = (F.told files.old).holds; written = K.written out.old })
+        (record { holds = (F.told files.new).holds; written = K.written out.new }) }
+    ensures no_other { IsCarriedOut result }
+    ensures cause { result ≡ Status.WriteFault
+        → Rises (F.faults files.old).write (F.faults files.new).write ⊎ Rises (K.faults out.old).count (K.faults out.new).count }
+    ensures counts { HasWriteCause ⊥ (F.faults files.old) (F.faults files.new) }
+    ensures out_counts { HasSinkCause ⊥ (K.faults out.old) (K.faults out.new) }
+{
+    match write_files(files, plan.files.as_slice()) {
+        Ok(()) => {
+            let status = if plan.is_done {
+                Status::Done
+            } else {
+                Status::Stopped
+            };
+            ended(write_out(out, plan.text.as_slice()), status)
+        }
+        Err(Fault::Failed) => Status::WriteFault,
+        Err(Fault::Memory) => Status::Memory,
+    }
+}
+
+// Does what a command says, and answers how it ended.
+fn obey<F: Files, K: Sink>(
+    alloc: Global,
+    command: Command<'_>,
+    files: &mut F,
+    out: &mut K,
+) -> Status
+    requires { F.mode files.old ≡ FileMode.Idle }
+    ensures mode { F.mode files.new ≡ FileMode.Idle }
+    ensures stands { IsTrue F.tells → Ends (Some (order_meant command.entry)) result (IsTrue K.tells)
+        (record { holds = (F.told files.old).holds; written = K.written out.old })
+        (record { holds = (F.told files.new).holds; written = K.written out.new }) }
+    ensures words { FitsWords (Some (order_meant command.entry)) result }
+    ensures writes { IsTrue K.tells → Writes (Some (order_meant command.entry)) result (K.written out.old) (K.written out.new) }
+    ensures read_fault { result ≡ Status.ReadFault → Rises (F.faults files.old).read (F.faults files.new).read
+        ⊎ (IsTrue F.tells × IsAbsent (Some (order_meant command.entry)) (F.told files.old).holds) }
+    ensures write_fault { result ≡ Status.WriteFault
+        → Rises (F.faults files.old).write (F.faults files.new).write ⊎ Rises (K.faults out.old).count (K.faults out.new).count }
+    ensures counts { KeepsCounts (F.faults files.old) (F.faults files.new) }
+    ensures out_counts { HasSinkCause ⊥ (K.faults out.old) (K.faults out.new) }
+{
+    match task_of(alloc, files, command) {
+        Ok(task) => match plan_for(alloc, task) {
+            Ok(plan) => carry_out(files, out, &plan),
+            Err(Memory) => Status::Memory,
+        },
+        Err(Stop::Refused(line)) => ended(write_out(out, line.as_slice()), Status::Refused),
+        Err(Stop::ReadFault) => Status::ReadFault,
+        Err(Stop::Memory) => Status::Memory,
+    }
+}
+
+/// Does what the words of a command line say, the program's name left out, and answers how it ended.
+///
+/// All files are read and all texts judged before the first file is created; the files are written before `out`.
+pub fn valflow<F: Files, K: Sink>(
+    alloc: Global,
+    words: &Vec<String>,
+    files: &mut F,
+    out: &mut K,
+) -> Status
+    requires { F.mode files.old ≡ FileMode.Idle }
+    ensures mode { F.mode files.new ≡ FileMode.Idle }
+
+    // Which status comes, and what stands then: of the files where they tell, and of the output where the sink tells too.
+    ensures stands { IsTrue F.tells → Ends (order_of (map string_bytes words.now.items)) result (IsTrue K.tells)
+        (record { holds = (F.told files.old).holds; written = K.written out.old })
+        (record { holds = (F.told files.new).holds; written = K.written out.new }) }
+    ensures words { FitsWords (order_of (map string_bytes words.now.items)) result }
+    ensures writes { IsTrue K.tells → Writes (order_of (map string_bytes words.now.items)) result (K.written out.old) (K.written out.new) }
+
+    // Why a fault comes.
+    ensures read_fault { result ≡ Status.ReadFault → Rises (F.faults files.old).read (F.faults files.new).read
+        ⊎ (IsTrue F.tells × IsAbsent (order_of (map string_bytes words.now.items)) (F.told files.old).holds) }
+    ensures write_fault { result ≡ Status.WriteFault
+        → Rises (F.faults files.old).write (F.faults files.new).write ⊎ Rises (K.faults out.old).count (K.faults out.new).count }
+
+    // Where no fault is counted, the answer is what the verdict says, unless memory runs out.
+    ensures complete { IsTrue F.tells → NoFaults (F.faults files.old) (F.faults files.new) (K.faults out.old) (K.faults out.new)
+        → Completes (order_of (map string_bytes words.now.items)) (F.told files.old).holds result }
+
+    // Where it is sure that there are no faults, none is counted.
+    ensures sure { IsTrue (F.faults files.old).sure → IsTrue (K.faults out.old).sure
+        → NoFaults (F.faults files.old) (F.faults files.new) (K.faults out.old) (K.faults out.new) }
+    ensures counts { KeepsCounts (F.faults files.old) (F.faults files.new) }
+    ensures out_counts { HasSinkCause ⊥ (K.faults out.old) (K.faults out.new) }
+{
+    match command_of(words.as_slice()) {
+        Some(command) => obey(alloc, command, files, out),
+        None => ended(write_out(out, USAGE), Status::Usage),
+    }
+}
