@@ -1,0 +1,3 @@
+pub mod Classes
+pub mod Spellings
+pub mod OneReading
