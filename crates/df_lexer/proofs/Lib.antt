@@ -1,0 +1,5 @@
+pub mod Numbers
+pub mod Words
+pub mod Longest
+pub mod LongestSymbols
+pub mod Readings
