@@ -7,15 +7,15 @@ use Rattle.std.proofs.lemmas.Option.{slice_get_past}
 use Rattle.std.proofs.lemmas.Bool.{not-true, or_parts}
 use Rattle.df_values.specs.declared.values.Value.{Value}
 use Rattle.df_values.specs.declared.values.Value.TheVariants.{Int, Truth, Error}
-use Rattle.df_machine.specs.declared.cells.CellId.{CellId}
-use Rattle.df_machine.specs.declared.cells.Dest.{Dest}
-use Rattle.df_machine.specs.declared.cells.Feed.{Feed}
-use Rattle.df_machine.specs.declared.cells.Feed.TheVariants.{Arc, Constant}
-use Rattle.df_machine.specs.declared.cells.Kind.{Kind}
-use Rattle.df_machine.specs.declared.cells.Kind.TheVariants as kind
-use Rattle.df_machine.specs.declared.cells.Cell.{Cell}
+use Rattle.df_cells.specs.declared.cells.CellId.{CellId}
+use Rattle.df_cells.specs.declared.cells.Dest.{Dest}
+use Rattle.df_cells.specs.declared.cells.Feed.{Feed}
+use Rattle.df_cells.specs.declared.cells.Feed.TheVariants.{Arc, Constant}
+use Rattle.df_cells.specs.declared.kinds.Kind.{Kind}
+use Rattle.df_cells.specs.declared.kinds.Kind.TheVariants as kind
+use Rattle.df_cells.specs.declared.cells.Cell.{Cell}
 use Rattle.df_machine.specs.Kinds.{Operands, wants, merge_wants, answer}
-use Rattle.df_machine.specs.Cells.{cell_from, loaded_at, cell_at, port_of, values_of}
+use Rattle.df_cells.specs.Cells.{cell_from, loaded_at, cell_at, port_of, values_of}
 use Rattle.df_machine.specs.States.{State, row, place, firings}
 use Rattle.df_machine.specs.Events.{at_hand, with_constants, is_missing, lacks, has_operands, takes, taken_at, taken}
 use Rattle.df_machine.specs.Histories.{Histories, listed, given_from, supply, took, Comparable, IsRight, Consistent, Traced, arriving, finishing}

@@ -6,14 +6,14 @@ use Rattle.std.proofs.lemmas.List.{get_or-set_same, get_or-set_other, get_or_pas
 use Rattle.std.proofs.lemmas.Option.{slice_get_within, get_or_from_slice_get, none-some}
 use Rattle.std.proofs.lemmas.Bool.{cases_eq, cases_lt, cases_Bool, eq-eqb, ne_eqb, eqb-false, and_cases}
 use Rattle.df_values.specs.declared.values.Value.{Value}
-use Rattle.df_machine.specs.declared.cells.CellId.{CellId}
-use Rattle.df_machine.specs.declared.cells.Dest.{Dest}
-use Rattle.df_machine.specs.declared.cells.Feed.{Feed}
-use Rattle.df_machine.specs.declared.cells.Cell.{Cell}
+use Rattle.df_cells.specs.declared.cells.CellId.{CellId}
+use Rattle.df_cells.specs.declared.cells.Dest.{Dest}
+use Rattle.df_cells.specs.declared.cells.Feed.{Feed}
+use Rattle.df_cells.specs.declared.cells.Cell.{Cell}
 use Rattle.df_machine.specs.declared.packets.Packet.{Packet}
 use Rattle.df_machine.specs.declared.packets.Packet.TheVariants.{Operand, Acknowledgement}
 use Rattle.df_machine.specs.Kinds.{Operands}
-use Rattle.df_machine.specs.Cells.{cell_from, feed_of, no_cell, cell_at, producer_of, same_port, is_from}
+use Rattle.df_cells.specs.Cells.{cell_from, feed_of, no_cell, cell_at, producer_of, same_port, is_from}
 use Rattle.df_machine.specs.CanRun.{CanRun}
 use Rattle.df_machine.specs.States.{State, row, place, is_busy, awaits}
 use Rattle.df_machine.specs.Events.{lowered, arrive, acknowledge}

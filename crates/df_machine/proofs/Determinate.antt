@@ -3,10 +3,10 @@ use Rattle.std.proofs.Common.{◌∙◌, ◌≡◌, ℕ, ◌-◌, ◌%◌, ◌<�
 use Rattle.std.specs.Prelude.{slice_get}
 use Rattle.std.proofs.lemmas.Bool.{cases_eq, eq-eqb, ne_eqb}
 use Rattle.df_values.specs.declared.values.Value.{Value}
-use Rattle.df_machine.specs.declared.cells.Cell.{Cell}
+use Rattle.df_cells.specs.declared.cells.Cell.{Cell}
 use Rattle.df_machine.specs.declared.packets.Packet.{Packet}
 use Rattle.df_machine.specs.declared.packets.Packet.TheVariants.{Operation, Operand, Acknowledgement}
-use Rattle.df_machine.specs.Cells.{cell_at, feed_of}
+use Rattle.df_cells.specs.Cells.{cell_at, feed_of}
 use Rattle.df_machine.specs.CanRun.{CanRun}
 use Rattle.df_machine.specs.States.{State, start, row}
 use Rattle.df_machine.specs.Events.{is_enabled, enabled, possible, taken, state_from, next, chosen}

@@ -7,13 +7,13 @@ use Rattle.std.proofs.lemmas.List.Sums.{sum_by_push, sum_by-append}
 use Rattle.std.proofs.lemmas.Option.{slice_get_within, get_or_from_slice_get}
 use Rattle.std.proofs.lemmas.Bool.{cases_eq, cases_Bool, eq-eqb, ne_eqb, ltb-true}
 use Rattle.df_values.specs.declared.values.Value.{Value}
-use Rattle.df_machine.specs.declared.cells.CellId.{CellId}
-use Rattle.df_machine.specs.declared.cells.Dest.{Dest}
-use Rattle.df_machine.specs.declared.cells.Cell.{Cell}
+use Rattle.df_cells.specs.declared.cells.CellId.{CellId}
+use Rattle.df_cells.specs.declared.cells.Dest.{Dest}
+use Rattle.df_cells.specs.declared.cells.Cell.{Cell}
 use Rattle.df_machine.specs.declared.packets.Packet.{Packet}
 use Rattle.df_machine.specs.declared.packets.Packet.TheVariants.{Operation, Operand, Acknowledgement}
 use Rattle.df_machine.specs.Kinds.{Operands, wants, is_below}
-use Rattle.df_machine.specs.Cells.{cell_from, cell_at, producer_of, port_of, same_port, is_from}
+use Rattle.df_cells.specs.Cells.{cell_from, cell_at, producer_of, port_of, same_port, is_from}
 use Rattle.df_machine.specs.CanRun.{CanRun, HasDests}
 use Rattle.df_machine.specs.States.{State, start, row, place, is_busy, firings}
 use Rattle.df_machine.specs.Events.{is_enabled, with_constants, has_operands, lacks, takes, left_at, left, taken, fire, perform, arrive, acknowledge, answers, answer_now, acknowledgement, acknowledgements, state_from}

@@ -6,12 +6,12 @@ use Rattle.std.proofs.lemmas.List.{get_or-set_same, get_or-set_other, get_or_pas
 use Rattle.std.proofs.lemmas.List.Sums.{sum_by_push}
 use Rattle.std.proofs.lemmas.Bool.{cases_eq, cases_Bool, eq-eqb, ne_eqb, eqb-true, and_parts, cond-true, cond-false, not-true}
 use Rattle.df_values.specs.declared.values.Value.{Value}
-use Rattle.df_machine.specs.declared.cells.CellId.{CellId}
-use Rattle.df_machine.specs.declared.cells.Dest.{Dest}
-use Rattle.df_machine.specs.declared.cells.Cell.{Cell}
+use Rattle.df_cells.specs.declared.cells.CellId.{CellId}
+use Rattle.df_cells.specs.declared.cells.Dest.{Dest}
+use Rattle.df_cells.specs.declared.cells.Cell.{Cell}
 use Rattle.df_machine.specs.declared.packets.Packet.TheVariants.{Operation}
 use Rattle.df_machine.specs.Kinds.{Operands}
-use Rattle.df_machine.specs.Cells.{cell_at, producer_of, port_of, is_from}
+use Rattle.df_cells.specs.Cells.{cell_at, producer_of, port_of, is_from}
 use Rattle.df_machine.specs.CanRun.{CanRun}
 use Rattle.df_machine.specs.States.{State, row, is_busy, awaits}
 use Rattle.df_machine.specs.Events.{is_enabled, fire, taken, left, takes}

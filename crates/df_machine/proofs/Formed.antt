@@ -4,11 +4,12 @@ use Rattle.std.specs.List.{count_by}
 use Rattle.std.proofs.lemmas.List.{get_or_past}
 use Rattle.std.proofs.lemmas.List.Sums.{count_by_more_yes, count_by_more_no, sum_by-take-le, sum_by-cons}
 use Rattle.std.proofs.lemmas.Bool.{cases_lt, cases_eq, cases_Bool}
-use Rattle.df_machine.specs.declared.cells.Cell.{Cell}
-use Rattle.df_machine.specs.declared.cells.Kind.{Kind}
-use Rattle.df_machine.specs.declared.cells.Kind.TheVariants as kind
-use Rattle.df_machine.specs.Kinds.{port_count, is_output, source_length, limit}
-use Rattle.df_machine.specs.Cells.{no_cell, cell_at, outputs}
+use Rattle.df_cells.specs.declared.cells.Cell.{Cell}
+use Rattle.df_cells.specs.declared.kinds.Kind.{Kind}
+use Rattle.df_cells.specs.declared.kinds.Kind.TheVariants as kind
+use Rattle.df_cells.specs.Kinds.{port_count, is_output, source_length}
+use Rattle.df_machine.specs.Kinds.{limit}
+use Rattle.df_cells.specs.Cells.{no_cell, cell_at, outputs}
 use Rattle.df_machine.specs.CanRun.{CanRun}
 use Rattle.df_machine.specs.Sound.{bit}
 

@@ -8,13 +8,14 @@ use Rattle.std.proofs.lemmas.Option.{none-some}
 use Rattle.df_values.specs.declared.values.Value.{Value}
 use Rattle.df_values.specs.declared.values.Value.TheVariants.{Error}
 use Rattle.df_values.specs.declared.values.ErrorValue.TheVariants as error
-use Rattle.df_machine.specs.declared.cells.CellId.{CellId}
-use Rattle.df_machine.specs.declared.cells.Feed.{Feed}
-use Rattle.df_machine.specs.declared.cells.Feed.TheVariants.{Arc, Constant}
-use Rattle.df_machine.specs.declared.cells.Cell.{Cell}
-use Rattle.df_machine.specs.declared.cells.Kind.TheVariants as kind
-use Rattle.df_machine.specs.Kinds.{Operands, operand, port_count, source_length, wants}
-use Rattle.df_machine.specs.Cells.{cell_from, cell_at, port_of, producer_of}
+use Rattle.df_cells.specs.declared.cells.CellId.{CellId}
+use Rattle.df_cells.specs.declared.cells.Feed.{Feed}
+use Rattle.df_cells.specs.declared.cells.Feed.TheVariants.{Arc, Constant}
+use Rattle.df_cells.specs.declared.cells.Cell.{Cell}
+use Rattle.df_cells.specs.declared.kinds.Kind.TheVariants as kind
+use Rattle.df_cells.specs.Kinds.{port_count, source_length}
+use Rattle.df_machine.specs.Kinds.{Operands, operand, wants}
+use Rattle.df_cells.specs.Cells.{cell_from, cell_at, port_of, producer_of}
 use Rattle.df_machine.specs.CanRun.{CanRun}
 use Rattle.df_machine.specs.Events.{at_hand, with_constants}
 use Rattle.df_machine.specs.Runs.{after}

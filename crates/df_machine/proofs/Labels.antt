@@ -5,9 +5,9 @@ use Rattle.std.specs.List.{AllByRecursion, flat_map}
 use Rattle.std.proofs.lemmas.List.{append-nil}
 use Rattle.std.proofs.lemmas.Bool.{cases_eq, eq-eqb, ne_eqb, ltb-true}
 use Rattle.df_values.specs.declared.values.Value.{Value}
-use Rattle.df_machine.specs.declared.cells.Cell.{Cell}
+use Rattle.df_cells.specs.declared.cells.Cell.{Cell}
 use Rattle.df_machine.specs.Kinds.{Operands, is_below}
-use Rattle.df_machine.specs.Cells.{cell_at, port_of}
+use Rattle.df_cells.specs.Cells.{cell_at, port_of}
 use Rattle.df_machine.specs.CanRun.{CanRun}
 use Rattle.df_machine.specs.States.{State, start, row, place, firings}
 use Rattle.df_machine.specs.Events.{is_enabled, possible, taken, chosen}

@@ -4,13 +4,13 @@ use Rattle.std.specs.Prelude.{slice_get, nat_lt}
 use Rattle.std.proofs.lemmas.List.{get_or-set_same, get_or-set_other, length_push, length-replicate}
 use Rattle.std.proofs.lemmas.Bool.{cases_eq, and_parts, ltb-true}
 use Rattle.df_values.specs.declared.values.Value.{Value}
-use Rattle.df_machine.specs.declared.cells.Cell.{Cell}
-use Rattle.df_machine.specs.declared.cells.Kind.{Kind}
-use Rattle.df_machine.specs.declared.cells.Kind.TheVariants as kind
+use Rattle.df_cells.specs.declared.cells.Cell.{Cell}
+use Rattle.df_cells.specs.declared.kinds.Kind.{Kind}
+use Rattle.df_cells.specs.declared.kinds.Kind.TheVariants as kind
 use Rattle.df_machine.specs.declared.packets.Packet.{Packet}
 use Rattle.df_machine.specs.declared.packets.Packet.TheVariants.{Operation, Operand, Acknowledgement}
 use Rattle.df_machine.specs.Kinds.{Operands, operand, written, is_below, limit}
-use Rattle.df_machine.specs.Cells.{cell_at, outputs}
+use Rattle.df_cells.specs.Cells.{cell_at, outputs}
 use Rattle.df_machine.specs.CanRun.{CanRun}
 use Rattle.df_machine.specs.States.{State, start, is_busy, firings}
 use Rattle.df_machine.specs.Events.{is_enabled, enabled, possible, fire, perform, arrive, acknowledge, with_constants, state_from, next, chosen}

@@ -7,13 +7,13 @@ use Rattle.std.proofs.lemmas.Option.{slice_get_within, get_or_from_slice_get}
 use Rattle.std.proofs.lemmas.List.Sums.{sum_by-append}
 use Rattle.std.proofs.lemmas.Bool.{cases_eq, cases_Bool, eq-eqb, ne_eqb, eqb-true, and_right, cond-true, cond-false, both_ways, cases_lt}
 use Rattle.df_values.specs.declared.values.Value.{Value}
-use Rattle.df_machine.specs.declared.cells.CellId.{CellId}
-use Rattle.df_machine.specs.declared.cells.Dest.{Dest}
-use Rattle.df_machine.specs.declared.cells.Cell.{Cell}
+use Rattle.df_cells.specs.declared.cells.CellId.{CellId}
+use Rattle.df_cells.specs.declared.cells.Dest.{Dest}
+use Rattle.df_cells.specs.declared.cells.Cell.{Cell}
 use Rattle.df_machine.specs.declared.packets.Packet.{Packet}
 use Rattle.df_machine.specs.declared.packets.Packet.TheVariants.{Operation, Operand}
 use Rattle.df_machine.specs.Kinds.{Operands}
-use Rattle.df_machine.specs.Cells.{cell_at, producer_of, is_from}
+use Rattle.df_cells.specs.Cells.{cell_at, producer_of, is_from}
 use Rattle.df_machine.specs.CanRun.{CanRun, HasDests}
 use Rattle.df_machine.specs.States.{State, is_busy, awaits}
 use Rattle.df_machine.specs.Events.{perform, answers, answer_now, acknowledgement, acknowledgements}

@@ -9,12 +9,13 @@ use Rattle.std.proofs.lemmas.Option.{none-some, same_Some}
 use Rattle.std.proofs.lemmas.Bool.{cases_lt, cases_eq}
 use Rattle.df_values.specs.declared.values.Value.{Value}
 use Rattle.df_values.specs.Streams.{StreamLists, room_at, KeepsRooms}
-use Rattle.df_machine.specs.declared.cells.Cell.{Cell}
-use Rattle.df_machine.specs.declared.cells.InputDecl.{InputDecl}
-use Rattle.df_machine.specs.declared.cells.Kind.{Kind}
-use Rattle.df_machine.specs.declared.cells.Kind.TheVariants as kind
-use Rattle.df_machine.specs.Kinds.{Operands, no_operands, is_input, is_output, result_length}
-use Rattle.df_machine.specs.Cells.{loaded_from, cell_at, declared_by, inputs_of, inputs_before, outputs, outputs_before}
+use Rattle.df_cells.specs.declared.cells.Cell.{Cell}
+use Rattle.df_cells.specs.declared.cells.InputDecl.{InputDecl}
+use Rattle.df_cells.specs.declared.kinds.Kind.{Kind}
+use Rattle.df_cells.specs.declared.kinds.Kind.TheVariants as kind
+use Rattle.df_cells.specs.Kinds.{is_input, is_output, result_length}
+use Rattle.df_machine.specs.Kinds.{Operands, no_operands}
+use Rattle.df_cells.specs.Cells.{loaded_from, cell_at, declared_by, inputs_of, inputs_before, outputs, outputs_before}
 use Rattle.df_machine.specs.CanRun.{CanRun}
 use Rattle.df_machine.specs.declared.packets.Packet.{Packet}
 use Rattle.df_machine.specs.States.{State, first_places, first_awaited, start}
@@ -22,16 +23,6 @@ use Rattle.df_machine.specs.Sound.{bit}
 use Rattle.df_machine.proofs.Formed.{within_from_kind, count_next}
 use Rattle.df_machine.proofs.Counts.{bit-le}
 use Rattle.df_machine.proofs.SoundRuns.{loaded_from-none, first_awaited-none}
-
--- ---- declarations
-
-pub decls_next : (xs : List Cell) (i : ℕ) (x : Cell) (o : Option InputDecl) (ds es : List InputDecl) → i < length xs → x ≡ get_or xs i x → o ≡ declared_by x.kind
-    → ds ≡ inputs_of (take i xs) → es ≡ ds ++ cons_option o [] → es ≡ inputs_of (take (i + 1) xs)
-decls_next xs i x o ds es h is says before grown =
-    let one = λ (y : Cell). cons_option (declared_by y.kind) [] in
-    grown ∙ ap (λ l. l ++ cons_option o []) before ∙ ap (λ t. inputs_of (take i xs) ++ cons_option t []) says ∙ ap (λ y. inputs_of (take i xs) ++ one y) is
-    ∙ sym (filter_map-append (λ cell. declared_by cell.kind) (take i xs) (get_or xs i x ∷ []))
-    ∙ ap inputs_of (sym (take_more xs i x h))
 
 -- ---- numbers
 

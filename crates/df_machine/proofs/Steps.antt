@@ -7,10 +7,10 @@ use Rattle.std.proofs.lemmas.List.{length_push, nil_from_length}
 use Rattle.std.proofs.lemmas.Option.{slice_get_within, get_or_from_slice_get, slice_get_read}
 use Rattle.std.proofs.lemmas.Bool.{eq-eqb}
 use Rattle.df_values.specs.declared.values.Value.{Value}
-use Rattle.df_machine.specs.declared.cells.CellId.{CellId}
-use Rattle.df_machine.specs.declared.cells.Kind.{Kind}
-use Rattle.df_machine.specs.declared.cells.Kind.TheVariants as kind
-use Rattle.df_machine.specs.declared.cells.Cell.{Cell}
+use Rattle.df_cells.specs.declared.cells.CellId.{CellId}
+use Rattle.df_cells.specs.declared.kinds.Kind.{Kind}
+use Rattle.df_cells.specs.declared.kinds.Kind.TheVariants as kind
+use Rattle.df_cells.specs.declared.cells.Cell.{Cell}
 use Rattle.df_machine.specs.declared.packets.Packet.{Packet}
 use Rattle.df_machine.specs.declared.packets.Packet.TheVariants.{Operation, Operand, Acknowledgement}
 use Rattle.df_machine.specs.declared.packets.Event.TheVariants.{Fire}
@@ -18,7 +18,7 @@ use Rattle.df_machine.specs.declared.sources.Sources.{Sources}
 use Rattle.df_machine.specs.declared.store.Store.{Store}
 use Rattle.df_machine.specs.Kinds.{limit}
 use Rattle.df_machine.specs.CanRun.{CanRun}
-use Rattle.df_machine.specs.Cells.{cell_at, is_from}
+use Rattle.df_cells.specs.Cells.{cell_at, is_from}
 use Rattle.df_machine.specs.States.{State, is_busy, awaits, firings}
 use Rattle.df_machine.specs.Events.{enabled, possible, fire, perform, deliver, answers, answer_now, acknowledgements, event_of, event_from, state_from, event_at, next, chosen, chosen_event}
 use Rattle.df_machine.specs.Sound.{bit, is_on, tokens, Sound, Counted, Fed}

@@ -7,13 +7,13 @@ use Rattle.std.proofs.lemmas.List.Sums.{sum_by-cons, sum_by-append}
 use Rattle.std.proofs.lemmas.Option.{same_Some}
 use Rattle.std.proofs.lemmas.Bool.{cases_eq, cases_Bool, eq-eqb, ne_eqb, and_parts}
 use Rattle.df_values.specs.declared.values.Value.{Value}
-use Rattle.df_machine.specs.declared.cells.CellId.{CellId}
-use Rattle.df_machine.specs.declared.cells.Dest.{Dest}
-use Rattle.df_machine.specs.declared.cells.Cell.{Cell}
+use Rattle.df_cells.specs.declared.cells.CellId.{CellId}
+use Rattle.df_cells.specs.declared.cells.Dest.{Dest}
+use Rattle.df_cells.specs.declared.cells.Cell.{Cell}
 use Rattle.df_machine.specs.declared.packets.Packet.{Packet}
 use Rattle.df_machine.specs.declared.packets.Packet.TheVariants.{Operation, Operand, Acknowledgement}
 use Rattle.df_machine.specs.Kinds.{Operands}
-use Rattle.df_machine.specs.Cells.{cell_at, loaded_at, producer_of, same_port, is_from}
+use Rattle.df_cells.specs.Cells.{cell_at, loaded_at, producer_of, same_port, is_from}
 use Rattle.df_machine.specs.CanRun.{CanRun, HasDests}
 use Rattle.df_machine.specs.States.{State, row, place, is_busy, firings}
 use Rattle.df_machine.specs.Events.{is_enabled, has_operands, takes, taken, left, fire, perform, arrive, acknowledge, answers, acknowledgement, acknowledgements}

@@ -4,12 +4,13 @@ use Rattle.std.specs.List.{count_by, AllByRecursion}
 use Rattle.df_values.specs.declared.values.Value.{Value}
 use Rattle.df_values.specs.declared.values.Basic.{Basic}
 use Rattle.df_values.specs.Values.{IsOrdinary}
-use Rattle.df_machine.specs.declared.cells.CellId.{CellId}
-use Rattle.df_machine.specs.declared.cells.Dest.{Dest}
-use Rattle.df_machine.specs.declared.cells.Cell.{Cell}
-use Rattle.df_machine.specs.declared.cells.Kind.TheVariants as kind
-use Rattle.df_machine.specs.Kinds.{Operands, port_count, HasCanonicalRuns, source_length, wants}
-use Rattle.df_machine.specs.Cells.{cell_at, port_of, same_port, producer_of, is_from, inputs_before, values_of, outputs_before}
+use Rattle.df_cells.specs.declared.cells.CellId.{CellId}
+use Rattle.df_cells.specs.declared.cells.Dest.{Dest}
+use Rattle.df_cells.specs.declared.cells.Cell.{Cell}
+use Rattle.df_cells.specs.declared.kinds.Kind.TheVariants as kind
+use Rattle.df_cells.specs.Kinds.{port_count, HasCanonicalRuns, source_length}
+use Rattle.df_machine.specs.Kinds.{Operands, wants}
+use Rattle.df_cells.specs.Cells.{cell_at, port_of, same_port, producer_of, is_from, inputs_before, values_of, outputs_before}
 
 -- a cell has as many ports as its kind, and runs are canonical
 pub record IsCell (cell : Cell) : Type 0 where

@@ -5,13 +5,13 @@ use Rattle.std.specs.Fmt.{decimal, signed_decimal}
 use Rattle.df_values.specs.Spelling.{spelled}
 use Rattle.df_values.specs.declared.values.Basic.{Basic}
 use Rattle.df_values.specs.declared.values.Basic.TheVariants as basic
-use Rattle.df_machine.specs.declared.cells.Cell.{Cell}
-use Rattle.df_machine.specs.declared.cells.Run.{Run}
-use Rattle.df_machine.specs.declared.cells.Dest.{Dest}
-use Rattle.df_machine.specs.declared.cells.Feed.{Feed}
-use Rattle.df_machine.specs.declared.cells.Feed.TheVariants.{Arc, Constant}
-use Rattle.df_machine.specs.declared.cells.Kind.{Kind}
-use Rattle.df_machine.specs.declared.cells.Kind.TheVariants as kind
+use Rattle.df_cells.specs.declared.cells.Cell.{Cell}
+use Rattle.df_cells.specs.declared.kinds.Run.{Run}
+use Rattle.df_cells.specs.declared.cells.Dest.{Dest}
+use Rattle.df_cells.specs.declared.cells.Feed.{Feed}
+use Rattle.df_cells.specs.declared.cells.Feed.TheVariants.{Arc, Constant}
+use Rattle.df_cells.specs.declared.kinds.Kind.{Kind}
+use Rattle.df_cells.specs.declared.kinds.Kind.TheVariants as kind
 
 abbrev pub spelled_basic : Basic → List ℕ
 spelled_basic basic.Integer = codes "integer"

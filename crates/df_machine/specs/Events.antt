@@ -2,17 +2,17 @@
 use Rattle.std.specs.Prelude.{ℕ, ◌+◌, ◌-◌, ◌%◌, ◌==◌, Bool, true, false, cond, not, ◌&&◌, ◌||◌, List, [], ◌∷◌, ◌++◌, map, get_or, set, length, slice_get, Option, Some, None, is_none, is_some}
 use Rattle.std.specs.List.{filter, range_with_len, remove}
 use Rattle.df_values.specs.declared.values.Value.{Value}
-use Rattle.df_machine.specs.declared.cells.CellId.{CellId}
-use Rattle.df_machine.specs.declared.cells.Dest.{Dest}
-use Rattle.df_machine.specs.declared.cells.Feed.{Feed}
-use Rattle.df_machine.specs.declared.cells.Feed.TheVariants.{Constant}
-use Rattle.df_machine.specs.declared.cells.Cell.{Cell}
+use Rattle.df_cells.specs.declared.cells.CellId.{CellId}
+use Rattle.df_cells.specs.declared.cells.Dest.{Dest}
+use Rattle.df_cells.specs.declared.cells.Feed.{Feed}
+use Rattle.df_cells.specs.declared.cells.Feed.TheVariants.{Constant}
+use Rattle.df_cells.specs.declared.cells.Cell.{Cell}
 use Rattle.df_machine.specs.declared.packets.Packet.{Packet}
 use Rattle.df_machine.specs.declared.packets.Packet.TheVariants.{Operation, Operand, Acknowledgement}
 use Rattle.df_machine.specs.declared.packets.Event.{Event}
 use Rattle.df_machine.specs.declared.packets.Event.TheVariants.{Fire, Perform, Arrive, Ack}
 use Rattle.df_machine.specs.Kinds.{Operands, per_port, limit, is_below, wants, answer, written}
-use Rattle.df_machine.specs.Cells.{cell_at, port_of, cell_from, producer_of, values_of}
+use Rattle.df_cells.specs.Cells.{cell_at, port_of, cell_from, producer_of, values_of}
 use Rattle.df_machine.specs.States.{State, row, is_busy, awaits, firings}
 
 -- ---- operands

@@ -2,14 +2,14 @@
 use Rattle.std.specs.Prelude.{◌≡◌, ◌⊎◌, map, ◌+◌, ◌-◌, ◌%◌, ◌==◌, ℕ, cond, List, [], ◌∷◌, ◌++◌, get_or, length, slice_get, Option, Some, None, is_some}
 use Rattle.std.specs.List.{AllByRecursion, flat_map}
 use Rattle.df_values.specs.declared.values.Value.{Value}
-use Rattle.df_machine.specs.declared.cells.CellId.{CellId}
-use Rattle.df_machine.specs.declared.cells.Dest.{Dest}
-use Rattle.df_machine.specs.declared.cells.Cell.{Cell}
-use Rattle.df_machine.specs.declared.cells.Kind.TheVariants as kind
+use Rattle.df_cells.specs.declared.cells.CellId.{CellId}
+use Rattle.df_cells.specs.declared.cells.Dest.{Dest}
+use Rattle.df_cells.specs.declared.cells.Cell.{Cell}
+use Rattle.df_cells.specs.declared.kinds.Kind.TheVariants as kind
 use Rattle.df_machine.specs.declared.packets.Packet.{Packet}
 use Rattle.df_machine.specs.declared.packets.Packet.TheVariants.{Operation, Operand, Acknowledgement}
 use Rattle.df_machine.specs.Kinds.{Operands, operand, answer, limit}
-use Rattle.df_machine.specs.Cells.{cell_at, producer_of, loaded_at, same_port, values_of}
+use Rattle.df_cells.specs.Cells.{cell_at, producer_of, loaded_at, same_port, values_of}
 use Rattle.df_machine.specs.States.{State, start, row, place, firings}
 use Rattle.df_machine.specs.Events.{with_constants, takes, taken, enabled, possible, chosen}
 use Rattle.df_machine.specs.Sound.{three}

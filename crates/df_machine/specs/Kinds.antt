@@ -1,8 +1,6 @@
--- What each kind of cell does: one table for its ports, one for how often it fires, one for the operands that a
--- firing takes, one for its answer, and one for what it writes.
-use Rattle.std.specs.Prelude.{◌≢◌, ◌≤◌, ℕ, ◌-◌, ◌==◌, nat_lt, pos, ◌+ℤ◌, Bool, true, false, cond, not, List, [], ◌∷◌, ◌++◌, get_or, set, length, replicate, slice_get, Option, Some, None}
+-- What each kind of cell does: one table for the operands that a firing takes, one for its answer, and one for what it writes.
+use Rattle.std.specs.Prelude.{ℕ, ◌-◌, ◌==◌, nat_lt, pos, ◌+ℤ◌, Bool, true, false, cond, not, List, [], ◌∷◌, ◌++◌, get_or, set, slice_get, Option, Some, None}
 use Rattle.std.specs.Option.{unwrap_or}
-use Rattle.std.specs.List.{flat_map}
 use Rattle.df_values.specs.declared.values.Value.{Value}
 use Rattle.df_values.specs.declared.values.Value.TheVariants.{Int, Truth, Error}
 use Rattle.df_values.specs.declared.values.ErrorValue.TheVariants as error
@@ -11,28 +9,9 @@ use Rattle.df_values.specs.declared.kinds.Rel.TheVariants as rel
 use Rattle.df_values.specs.declared.kinds.Test.TheVariants as test
 use Rattle.df_values.specs.Operators.{inversion, chosen}
 use Rattle.df_values.specs.Tables as tables
-use Rattle.df_machine.specs.declared.cells.Run.{Run}
-use Rattle.df_machine.specs.declared.cells.Kind.{Kind}
-use Rattle.df_machine.specs.declared.cells.Kind.TheVariants as kind
-
--- how many ports a cell of the kind has
-abbrev pub port_count : Kind → ℕ
-port_count (kind.In name basic n) = 0
-port_count (kind.Idx lo n) = 0
-port_count (kind.Ctl runs) = 0
-port_count (kind.Out k n) = 1
-port_count kind.Buf = 1
-port_count kind.Neg = 1
-port_count kind.Not = 1
-port_count kind.IsUndef = 1
-port_count kind.IsMissElt = 1
-port_count kind.IsPosOver = 1
-port_count kind.IsNegOver = 1
-port_count kind.IsUnknown = 1
-port_count kind.IsZeroDivide = 1
-port_count kind.IsError = 1
-port_count kind.Merge = 3
-port_count _ = 2
+use Rattle.df_cells.specs.declared.kinds.Kind.{Kind}
+use Rattle.df_cells.specs.declared.kinds.Kind.TheVariants as kind
+use Rattle.df_cells.specs.Kinds.{run_values}
 
 -- ---- operands
 
@@ -51,38 +30,7 @@ no_operands = per_port (λ p. None)
 abbrev pub operand : Operands → ℕ → Value
 operand operands p = unwrap_or (get_or operands p None) (Error error.Undef)
 
--- ---- sources
-
--- the list that runs stand for
-abbrev pub run_values : List Run → List Value
-run_values runs = flat_map (λ r. replicate r.count r.value) runs
-
--- whether the first run, if there is one, has another value
-abbrev pub BeginsOtherwise : Value → List Run → Type 0
-BeginsOtherwise v [] = Unit {0}
-BeginsOtherwise v (r ∷ runs) = v ≢ r.value
-
--- each run has a value, and neighbours have different ones: so no two such lists of runs stand for one list
-abbrev pub AreCanonical : List Run → Type 0
-AreCanonical [] = Unit {0}
-AreCanonical (r ∷ runs) = (1 ≤ r.count) × BeginsOtherwise r.value runs × AreCanonical runs
-
-abbrev pub HasCanonicalRuns : Kind → Type 0
-HasCanonicalRuns (kind.Ctl runs) = AreCanonical runs
-HasCanonicalRuns _ = Unit {0}
-
--- how many values a source gives; other cells are no sources
-abbrev pub source_length : Kind → Option ℕ
-source_length (kind.In name basic n) = Some n
-source_length (kind.Idx lo n) = Some n
-source_length (kind.Ctl runs) = Some (length (run_values runs))
-source_length _ = None
-
--- how many firings a cell has at most, where there is such a number
-abbrev pub limit : Kind → Option ℕ
-limit (kind.Out k n) = Some n
-limit it = source_length it
-
+-- whether so many firings are below the limit, where there is one
 abbrev pub is_below : ℕ → Option ℕ → Bool
 is_below n None = true
 is_below n (Some m) = nat_lt n m
@@ -144,16 +92,3 @@ answer kind.Merge n values x = Some (chosen (operand x 0) (operand x 1) (operand
 unfoldable pub written : Kind → Operands → List (List Value) → List (List Value)
 written (kind.Out k n) x results = set results (k - 1) (get_or results (k - 1) [] ++ operand x 0 ∷ [])
 written _ x results = results
-
-abbrev pub is_input : Kind → Bool
-is_input (kind.In name basic n) = true
-is_input _ = false
-
-abbrev pub is_output : Kind → Bool
-is_output (kind.Out k n) = true
-is_output _ = false
-
--- how many values the result of an OUT has in the end
-abbrev pub result_length : Kind → Option ℕ
-result_length (kind.Out k n) = Some n
-result_length _ = None

@@ -1,9 +1,9 @@
 -- The laws of every run, under every list of choices.
 use Rattle.std.specs.Prelude.{◌≡◌, ◌≤◌, ℕ, ◌-◌, List, [], get_or, length, ◌++◌}
 use Rattle.df_values.specs.declared.values.Value.{Value}
-use Rattle.df_machine.specs.declared.cells.Cell.{Cell}
-use Rattle.df_machine.specs.declared.cells.Kind.TheVariants as kind
-use Rattle.df_machine.specs.Cells.{cell_at, outputs}
+use Rattle.df_cells.specs.declared.cells.Cell.{Cell}
+use Rattle.df_cells.specs.declared.kinds.Kind.TheVariants as kind
+use Rattle.df_cells.specs.Cells.{cell_at, outputs}
 use Rattle.df_machine.specs.CanRun.{CanRun}
 use Rattle.df_machine.specs.States.{State}
 use Rattle.df_machine.specs.Events.{chosen_event, possible}

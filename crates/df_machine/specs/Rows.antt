@@ -7,14 +7,14 @@ use Rattle.df_values.specs.declared.values.Value.TheVariants.{Int, Truth}
 use Rattle.df_values.specs.declared.values.Basic.TheVariants.{Integer}
 use Rattle.df_values.specs.Values.{least, greatest}
 use Rattle.df_values.specs.Tables as tables
-use Rattle.df_machine.specs.declared.cells.Cell.{Cell}
-use Rattle.df_machine.specs.declared.cells.Dest.{Dest}
-use Rattle.df_machine.specs.declared.cells.Feed.{Feed}
-use Rattle.df_machine.specs.declared.cells.Feed.TheVariants.{Arc, Constant}
-use Rattle.df_machine.specs.declared.cells.Kind.{Kind}
-use Rattle.df_machine.specs.declared.cells.Kind.TheVariants as kind
+use Rattle.df_cells.specs.declared.cells.Cell.{Cell}
+use Rattle.df_cells.specs.declared.cells.Dest.{Dest}
+use Rattle.df_cells.specs.declared.cells.Feed.{Feed}
+use Rattle.df_cells.specs.declared.cells.Feed.TheVariants.{Arc, Constant}
+use Rattle.df_cells.specs.declared.kinds.Kind.{Kind}
+use Rattle.df_cells.specs.declared.kinds.Kind.TheVariants as kind
 use Rattle.df_machine.specs.Kinds.{answer, written}
-use Rattle.df_machine.specs.Cells.{port_of}
+use Rattle.df_cells.specs.Cells.{port_of}
 use Rattle.df_machine.specs.States.{start}
 use Rattle.df_machine.specs.Events.{is_enabled, enabled, possible, fire, perform, arrive, acknowledge, event_at, next, chosen_event, chosen}
 use Rattle.df_machine.specs.Runs.{after, events}

@@ -3,17 +3,17 @@ use Rattle.std.specs.Prelude.{◌≡◌, ◌<◌, ◌≤◌, ◌-◌, ◌+◌, �
 use Rattle.df_values.specs.declared.values.Value.{Value}
 use Rattle.df_values.specs.Values.{IsOrdinary}
 use Rattle.df_values.specs.Streams.{StreamLists, list_at, room_at}
-use Rattle.df_machine.specs.declared.cells.CellId.{CellId}
-use Rattle.df_machine.specs.declared.cells.Cell.{Cell}
-use Rattle.df_machine.specs.declared.cells.Dest.{Dest}
-use Rattle.df_machine.specs.declared.cells.Kind.{Kind}
-use Rattle.df_machine.specs.declared.cells.Kind.TheVariants as kind
+use Rattle.df_cells.specs.declared.cells.CellId.{CellId}
+use Rattle.df_cells.specs.declared.cells.Cell.{Cell}
+use Rattle.df_cells.specs.declared.cells.Dest.{Dest}
+use Rattle.df_cells.specs.declared.kinds.Kind.{Kind}
+use Rattle.df_cells.specs.declared.kinds.Kind.TheVariants as kind
 use Rattle.df_machine.specs.declared.packets.Packet.{Packet}
 use Rattle.df_machine.specs.declared.packets.Packet.TheVariants.{Operation, Operand, Acknowledgement}
 use Rattle.df_machine.specs.declared.sources.Sources.{Sources}
 use Rattle.df_machine.specs.declared.store.Store.{Store}
 use Rattle.df_machine.specs.Kinds.{Operands}
-use Rattle.df_machine.specs.Cells.{cell_at, producer_of, inputs_before}
+use Rattle.df_cells.specs.Cells.{cell_at, producer_of, inputs_before}
 use Rattle.df_machine.specs.CanRun.{CanRun}
 use Rattle.df_machine.specs.Events.{answers, answer_now, acknowledgements}
 use Rattle.df_machine.specs.Sound.{Sound, Counted, Fed}

@@ -1,13 +1,13 @@
 -- The arc invariant: on each arc stands at most one operand, wherever it is on its way.
 use Rattle.std.specs.Prelude.{◌≡◌, true, ◌+◌, ◌-◌, ◌<◌, ◌≤◌, ℕ, Bool, false, cond, ◌&&◌, ◌==◌, List, [], get_or, length, Option, Some, None, is_some}
 use Rattle.std.specs.List.{count_by, sum_by}
-use Rattle.df_machine.specs.declared.cells.CellId.{CellId}
-use Rattle.df_machine.specs.declared.cells.Dest.{Dest}
-use Rattle.df_machine.specs.declared.cells.Cell.{Cell}
-use Rattle.df_machine.specs.declared.cells.Kind.TheVariants as kind
+use Rattle.df_cells.specs.declared.cells.CellId.{CellId}
+use Rattle.df_cells.specs.declared.cells.Dest.{Dest}
+use Rattle.df_cells.specs.declared.cells.Cell.{Cell}
+use Rattle.df_cells.specs.declared.kinds.Kind.TheVariants as kind
 use Rattle.df_machine.specs.declared.packets.Packet.{Packet}
 use Rattle.df_machine.specs.declared.packets.Packet.TheVariants.{Operation, Operand, Acknowledgement}
-use Rattle.df_machine.specs.Cells.{cell_at, producer_of, same_port, outputs}
+use Rattle.df_cells.specs.Cells.{cell_at, producer_of, same_port, outputs}
 use Rattle.df_machine.specs.Kinds.{Operands, per_port, wants, limit}
 use Rattle.df_machine.specs.States.{State, row, place, is_busy, awaits, firings}
 

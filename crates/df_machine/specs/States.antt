@@ -2,11 +2,11 @@
 use Rattle.std.specs.Prelude.{ℕ, Bool, false, List, [], map, get_or, length, replicate, Option, None, is_some, slice_get}
 use Rattle.std.specs.List.{count_by}
 use Rattle.df_values.specs.declared.values.Value.{Value}
-use Rattle.df_machine.specs.declared.cells.Cell.{Cell}
-use Rattle.df_machine.specs.declared.cells.Dest.{Dest}
+use Rattle.df_cells.specs.declared.cells.Cell.{Cell}
+use Rattle.df_cells.specs.declared.cells.Dest.{Dest}
 use Rattle.df_machine.specs.declared.packets.Packet.{Packet}
 use Rattle.df_machine.specs.Kinds.{Operands, per_port}
-use Rattle.df_machine.specs.Cells.{loaded_from, loaded_at, outputs}
+use Rattle.df_cells.specs.Cells.{loaded_from, loaded_at, outputs}
 
 -- For each cell its places, one for each port, whether it is busy, how many acknowledgements it awaits and how
 -- many firings it has had; the packets, the oldest first; and the values of each result.

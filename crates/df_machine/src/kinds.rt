@@ -3,7 +3,7 @@ ghost use Rattle.std.specs.Prelude.{◌≡◌, pos, ◌+ℤ◌, slice_get};
 ghost use Rattle.df_values.specs.Values.{IsOrdinary};
 ghost use Rattle.df_values.specs.declared.values.Value.TheVariants.{Int};
 ghost use Rattle.df_values.specs.Operators.{chosen};
-ghost use Rattle.df_machine.specs.Cells.{declared_by};
+ghost use Rattle.df_cells.specs.Cells.{declared_by};
 ghost use Rattle.df_machine.specs.Kinds as kinds;
 ghost use Rattle.df_machine.specs.Seen.{CanAnswer};
 

@@ -1,7 +1,7 @@
 //! The machine: cells, their inputs and a state.
 ghost use Rattle.std.specs.Prelude.{◌≡◌, ◌<◌, ◌≤◌, ◌-◌, [], length, get_or, IsNone, IfOk, IsErr, OnErr, ◌↔◌, Some};
 ghost use Rattle.df_machine.specs.CanRun.{CanRun, Fits};
-ghost use Rattle.df_machine.specs.Cells.{outputs};
+ghost use Rattle.df_cells.specs.Cells.{outputs};
 ghost use Rattle.df_machine.specs.Events as events;
 ghost use Rattle.df_machine.specs.Sound.{KeepsArcs};
 ghost use Rattle.df_machine.specs.States as states;

@@ -1,6 +1,6 @@
 //! Which operands lie at hand at the ports of a cell, and which of them a firing takes.
 ghost use Rattle.std.specs.Prelude.{◌≡◌, ◌<◌, ◌&&◌, cond, is_some, slice_get};
-ghost use Rattle.df_machine.specs.Cells.{cell_from};
+ghost use Rattle.df_cells.specs.Cells.{cell_from};
 ghost use Rattle.df_machine.specs.Kinds as kinds;
 ghost use Rattle.df_machine.specs.Events as events;
 

@@ -3,7 +3,7 @@ ghost use Rattle.std.specs.Prelude.{◌≡◌, ◌≤◌, ◌↔◌, ◌⊎◌, 
 ghost use Rattle.std.specs.Bool.{OnTrue, OnFalse};
 ghost use Rattle.df_machine.specs.Events.{possible};
 ghost use Rattle.df_machine.specs.Runs as runs;
-ghost use Rattle.df_machine.specs.Schedules.{choices_of};
+ghost use Rattle.df_cells.specs.Schedules.{choices_of};
 ghost use Rattle.df_machine.specs.Turns.{TakesTurn, HasNoTurn};
 
 use crate::machine::Machine;

@@ -1,6 +1,6 @@
 //! The inputs of a machine, and which of them belongs to which cell.
 ghost use Rattle.std.specs.Prelude.{◌≡◌, ◌<◌, length, IfOk};
-ghost use Rattle.df_machine.specs.Cells.{values_of};
+ghost use Rattle.df_cells.specs.Cells.{values_of};
 ghost use Rattle.df_machine.specs.Seen.{AreNumbered};
 
 use crate::cells::{CellId, Cells};

@@ -1,8 +1,8 @@
 //! The state of a machine in memory, and what each event does to it.
 ghost use Rattle.std.specs.Prelude.{◌≡◌, ◌+◌, ◌-◌, ◌*◌, ◌^◌, ◌<◌, ◌≤◌, ◌++◌, ◌∷◌, ℕ, [], length, replicate, slice_get, vec_len, vec_capacity, IfOk, Some};
 ghost use Rattle.df_values.specs.Streams.{list_at, room_at, KeepsRooms};
-ghost use Rattle.df_machine.specs.declared.cells.Kind.TheVariants as kind;
-ghost use Rattle.df_machine.specs.Cells.{cell_at, outputs};
+ghost use Rattle.df_cells.specs.declared.kinds.Kind.TheVariants as kind;
+ghost use Rattle.df_cells.specs.Cells.{cell_at, outputs};
 ghost use Rattle.df_machine.specs.CanRun.{CanRun};
 ghost use Rattle.df_machine.specs.Events as events;
 ghost use Rattle.df_machine.specs.Kinds as kinds;

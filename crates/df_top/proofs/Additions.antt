@@ -11,9 +11,9 @@ use Rattle.df_values.specs.Tables.{answer as operated}
 use Rattle.df_values.specs.declared.kinds.Op.TheVariants.{Add}
 use Rattle.df_values.specs.declared.values.Value.{Value}
 use Rattle.df_values.specs.declared.values.Value.TheVariants.{Int}
-use Rattle.df_machine.specs.declared.cells.Cell.{Cell}
-use Rattle.df_machine.specs.declared.cells.CellId.{CellId}
-use Rattle.df_machine.specs.Cells.{cell_at, producer_of}
+use Rattle.df_cells.specs.declared.cells.Cell.{Cell}
+use Rattle.df_cells.specs.declared.cells.CellId.{CellId}
+use Rattle.df_cells.specs.Cells.{cell_at, producer_of}
 use Rattle.df_machine.specs.Events.{takes}
 use Rattle.df_machine.specs.Histories.{Labels, Firing, Meets, IsRight, operands_of, took, supply, given_from, listed}
 use Rattle.df_machine.specs.Kinds.{Operands, answer, limit, no_operands}

@@ -1,8 +1,8 @@
 -- One more line of a cell file.
 use Rattle.std.proofs.Common.{◌≡◌, ◌++◌, ◌∷◌, [], ◌<◌, ◌+◌, ℕ, suc, zero, List, length, take, sym, ◌∙◌, ap, append_assoc, append-nil, arith}
-use Rattle.df_machine.specs.declared.cells.Cell.{Cell}
+use Rattle.df_cells.specs.declared.cells.Cell.{Cell}
 use Rattle.df_machine.specs.CellText.{cell_line, cell_lines}
-use Rattle.df_machine.specs.Cells.{cell_at}
+use Rattle.df_cells.specs.Cells.{cell_at}
 
 lines_more : (first : ℕ) (cells : List Cell) (i : ℕ) → i < length cells → cell_lines first (take (suc i) cells) ≡ cell_lines first (take i cells) ++ cell_line (first + i) (cell_at cells i)
 lines_more first [] i within = absurd (omega arith)

@@ -5,7 +5,7 @@ use Rattle.df_top.specs.Lines.{IsEnd}
 use Rattle.df_top.specs.Scanned.{LeadsAfter}
 use Rattle.df_top.specs.Schedules.{IsSchedule, parted, spaced, schedule_words}
 use Rattle.df_top.specs.Separators.{separator, drain_piece}
-use Rattle.df_machine.specs.declared.schedules.Schedule.{Schedule}
+use Rattle.df_cells.specs.declared.schedules.Schedule.{Schedule}
 use Rattle.df_top.proofs.Scanning.{one_after}
 use Rattle.df_top.proofs.ScheduleTexts.{space, tail, Spells, HasRead, choices_end, spells_text, no_digit_at_end, no_choice_at_tail, same_separator, tail_spaced, tail_parted, same_tail}
 

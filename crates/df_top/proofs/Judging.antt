@@ -8,7 +8,7 @@ use Rattle.df_top.specs.Schedules.{IsSchedule, ReadsSchedule}
 use Rattle.df_top.specs.Sources.{IsSource, ReadsSource}
 use Rattle.df_top.specs.Verdicts.{Accepted, Run, JudgesTexts}
 use Rattle.df_top.specs.declared.program.Program.{Program}
-use Rattle.df_machine.specs.declared.schedules.Schedule.{Schedule}
+use Rattle.df_cells.specs.declared.schedules.Schedule.{Schedule}
 use Rattle.df_top.specs.declared.stop.Stop.{Stop}
 use Rattle.df_top.specs.declared.stop.Stop.TheVariants as stop
 

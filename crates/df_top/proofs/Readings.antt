@@ -9,7 +9,7 @@ use Rattle.df_top.specs.Schedules.{ReadsSchedule}
 use Rattle.df_top.specs.Sources.{ReadsSource}
 use Rattle.df_top.specs.Verdicts.{Verdict, Refused, Accepted, Run, AfterText, AfterRead, Goes, JudgesTexts, Judges, text_at, source_limit, text_limit}
 use Rattle.df_top.specs.declared.program.Program.{Program}
-use Rattle.df_machine.specs.declared.schedules.Schedule.{Schedule}
+use Rattle.df_cells.specs.declared.schedules.Schedule.{Schedule}
 use Rattle.df_top.proofs.DrainTexts.{one_schedule}
 use Rattle.df_top.proofs.InputTexts.{one_input}
 use Rattle.df_top.proofs.SourceTexts.{one_source}

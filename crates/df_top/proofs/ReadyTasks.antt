@@ -11,13 +11,13 @@ use Rattle.df_values.specs.declared.values.Basic.{Basic}
 use Rattle.df_values.specs.declared.values.Basic.TheVariants.{Integer}
 use Rattle.df_values.specs.declared.values.Value.{Value}
 use Rattle.df_values.specs.declared.values.Value.TheVariants.{Int}
-use Rattle.df_machine.specs.declared.cells.Cell.{Cell}
-use Rattle.df_machine.specs.declared.cells.Kind.TheVariants as kind
+use Rattle.df_cells.specs.declared.cells.Cell.{Cell}
+use Rattle.df_cells.specs.declared.kinds.Kind.TheVariants as kind
 use Rattle.df_machine.specs.CanRun.{Fits}
-use Rattle.df_machine.specs.Cells.{cell_at, values_of}
+use Rattle.df_cells.specs.Cells.{cell_at, values_of}
 use Rattle.df_machine.specs.ThreeCells.{three_cells}
-use Rattle.df_machine.specs.Schedules.{choices_of}
-use Rattle.df_machine.specs.declared.schedules.Schedule.{Schedule}
+use Rattle.df_cells.specs.Schedules.{choices_of}
+use Rattle.df_cells.specs.declared.schedules.Schedule.{Schedule}
 use Rattle.df_top.specs.Inputs.{IsInput}
 use Rattle.df_top.specs.Schedules.{IsSchedule}
 use Rattle.df_top.specs.Meanings.{inputs_of}

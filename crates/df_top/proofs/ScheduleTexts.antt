@@ -14,7 +14,7 @@ use Rattle.df_top.specs.Lines.{IsEnd}
 use Rattle.df_top.specs.Scanned.{LeadsAfter}
 use Rattle.df_top.specs.Schedules.{IsSchedule, parted, spaced, drain_words, schedule_words}
 use Rattle.df_top.specs.Separators.{separator, drain_piece}
-use Rattle.df_machine.specs.declared.schedules.Schedule.{Schedule}
+use Rattle.df_cells.specs.declared.schedules.Schedule.{Schedule}
 use Rattle.df_top.proofs.Scanning.{one_after, same_rest}
 
 abbrev pub space : List ℕ

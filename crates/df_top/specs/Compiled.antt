@@ -2,13 +2,13 @@
 use Rattle.std.specs.Prelude.{◌≡◌, ℕ, List, [], ◌∷◌, length, get_or, codes}
 use Rattle.df_values.specs.declared.values.Value.{Value}
 use Rattle.df_values.specs.Inputs.{AreValid}
-use Rattle.df_machine.specs.declared.cells.Cell.{Cell}
+use Rattle.df_cells.specs.declared.cells.Cell.{Cell}
 use Rattle.df_machine.specs.CellText.{cell_text}
 use Rattle.df_machine.specs.Events.{chosen_event}
 use Rattle.df_machine.specs.Histories.{IsPrefix}
 use Rattle.df_machine.specs.Reports.{report}
 use Rattle.df_machine.specs.Runs.{after, IsClash}
-use Rattle.df_machine.specs.Schedules.{choices_of}
+use Rattle.df_cells.specs.Schedules.{choices_of}
 use Rattle.df_machine.specs.ThreeCells.{three_cells}
 use Rattle.df_top.specs.declared.program.Program.{Program}
 use Rattle.df_top.specs.Meanings.{inputs_of, mean}

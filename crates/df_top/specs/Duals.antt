@@ -2,8 +2,8 @@
 use Rattle.std.specs.Prelude.{ℕ, List, [], ◌∷◌, ◌++◌, length, codes}
 use Rattle.std.specs.List.{flat_map}
 use Rattle.std.specs.Fmt.{decimal}
-use Rattle.df_machine.specs.declared.cells.Dest.{Dest}
-use Rattle.df_machine.specs.Cells.{port_of}
+use Rattle.df_cells.specs.declared.cells.Dest.{Dest}
+use Rattle.df_cells.specs.Cells.{port_of}
 use Rattle.df_top.specs.Lines.{line}
 
 abbrev pub arc_line : Dest × ℕ → List ℕ

@@ -1,6 +1,6 @@
 -- Kinds with no arguments in a cell's line.
-use Rattle.df_machine.specs.declared.cells.Kind.{Kind}
-use Rattle.df_machine.specs.declared.cells.Kind.TheVariants as kind
+use Rattle.df_cells.specs.declared.kinds.Kind.{Kind}
+use Rattle.df_cells.specs.declared.kinds.Kind.TheVariants as kind
 
 abbrev pub IsPlain : Kind → Type 0
 IsPlain (kind.In name basic n) = ⊥

@@ -1,6 +1,6 @@
 -- What is known of a task whose texts were read.
 use Rattle.std.specs.Prelude.{◌≤◌, pos, length}
-use Rattle.df_machine.specs.Schedules.{choices_of}
+use Rattle.df_cells.specs.Schedules.{choices_of}
 use Rattle.df_values.specs.Inputs.{AreValid}
 use Rattle.df_values.specs.Values.{IsOrdinary}
 use Rattle.df_top.specs.Meanings.{inputs_of}

@@ -3,7 +3,7 @@ use Rattle.std.specs.Prelude.{◌≡◌, ◌≤◌, ◌<◌, ◌^◌, ℕ, ◌++
 use Rattle.std.specs.Fmt.{decimal}
 use Rattle.std.specs.Prelude.{IfSome}
 use Rattle.std.specs.List.{AllByRecursion, flat_map}
-use Rattle.df_machine.specs.declared.schedules.Schedule.{Schedule}
+use Rattle.df_cells.specs.declared.schedules.Schedule.{Schedule}
 use Rattle.df_top.specs.Lines.{IsEnd, refusal}
 
 -- each word behind a space, and words with a space between each two

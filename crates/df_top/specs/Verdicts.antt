@@ -3,7 +3,7 @@ use Rattle.std.specs.Prelude.{◌≡◌, ℕ, List, ◌++◌, length, Option, So
 use Rattle.std.specs.FinMap as table
 use Rattle.df_io.specs.Told.{Holds}
 use Rattle.df_values.specs.declared.values.Value.{Value}
-use Rattle.df_machine.specs.declared.schedules.Schedule.{Schedule}
+use Rattle.df_cells.specs.declared.schedules.Schedule.{Schedule}
 use Rattle.df_top.specs.declared.program.Program.{Program}
 use Rattle.df_top.specs.Orders.{Order, Go}
 use Rattle.df_top.specs.Lines.{refusal}

@@ -1,9 +1,9 @@
 //! What a task writes.
 ghost use Rattle.std.specs.Prelude.{◌≡◌, ◌≤◌, length, string_bytes, IfOk};
 ghost use Rattle.df_machine.specs.CanRun.{CanRun, Fits};
-ghost use Rattle.df_machine.specs.Cells.{port_of};
+ghost use Rattle.df_cells.specs.Cells.{port_of};
 ghost use Rattle.df_machine.specs.Reports.{report};
-ghost use Rattle.df_machine.specs.Schedules.{choices_of};
+ghost use Rattle.df_cells.specs.Schedules.{choices_of};
 ghost use Rattle.df_top.specs.Compiled.{MayDo};
 ghost use Rattle.df_top.specs.Plans.{effect_of, task_meant};
 ghost use Rattle.df_top.specs.Ready.{IsReady, IsWithin};

@@ -1,6 +1,6 @@
 //! The schedule texts that are read so far.
 ghost use Rattle.std.specs.Prelude.{◌≡◌, IfOk};
-ghost use Rattle.df_machine.specs.declared.schedules.Schedule.{Schedule};
+ghost use Rattle.df_cells.specs.declared.schedules.Schedule.{Schedule};
 ghost use Rattle.df_top.specs.Schedules.{IsSchedule};
 ghost use Rattle.df_top.specs.Separators.{separator, drain_piece};
 ghost use Rattle.df_top.specs.declared.schedule_text.ScheduleAnswer.TheVariants.{Memory as NoMemory};

@@ -1,7 +1,7 @@
 use Rattle.std.proofs.Common.{◌+◌, sym, ap, ◌∙◌, subst, arith}
 use Rattle.df_values.specs.Streams.{StreamLists}
-use Rattle.df_machine.specs.declared.cells.Cell.{Cell}
-use Rattle.df_machine.specs.Kinds.{result_length}
+use Rattle.df_cells.specs.declared.cells.Cell.{Cell}
+use Rattle.df_cells.specs.Kinds.{result_length}
 use Rattle.df_machine.proofs.Starts.{ResultsTo, results_output, results_other, results_rooms}
 use Rattle.df_machine.proofs.store.empty_results.Goals.{in-Some+in_ok-add_stream-in-Some, in-None}
 use Rattle.df_machine.proofs.store.empty_results.Goals as goal

@@ -1,7 +1,7 @@
 use Rattle.std.proofs.Common.{◌≡◌, ◌≤◌, ◌∙◌, ap, length, subst, sym}
 use Rattle.df_machine.specs.Reports.{Report, report}
 use Rattle.df_machine.specs.Runs.{run, events_from}
-use Rattle.df_machine.specs.Schedules.{choices_of}
+use Rattle.df_cells.specs.Schedules.{choices_of}
 use Rattle.df_top.specs.Reports.{report_text}
 use Rattle.df_top.proofs.RunReports.{same_report}
 use Rattle.df_top.proofs.planned.run_cells.Goals as goal

@@ -1,16 +1,16 @@
 -- Lists of cells: what feeds what, and where inputs and results lie.
-use Rattle.std.specs.Prelude.{ℕ, Bool, false, ◌&&◌, ◌==◌, List, [], get_or, take, slice_get, Option, Some, None}
-use Rattle.std.specs.List.{count_by, filter_map}
+use Rattle.std.specs.Prelude.{◌≡◌, ◌≤◌, ℕ, Bool, false, cond, ◌&&◌, ◌==◌, List, [], ◌∷◌, All, length, get_or, take, slice_get, Option, Some, None}
+use Rattle.std.specs.List.{count_by, filter_map, flat_map, range_with_len}
 use Rattle.df_values.specs.declared.values.Value.{Value}
-use Rattle.df_machine.specs.declared.cells.CellId.{CellId}
-use Rattle.df_machine.specs.declared.cells.Dest.{Dest}
-use Rattle.df_machine.specs.declared.cells.Feed.{Feed}
-use Rattle.df_machine.specs.declared.cells.Feed.TheVariants.{Arc, Constant}
-use Rattle.df_machine.specs.declared.cells.Kind.{Kind}
-use Rattle.df_machine.specs.declared.cells.Kind.TheVariants as kind
-use Rattle.df_machine.specs.declared.cells.Cell.{Cell}
-use Rattle.df_machine.specs.declared.cells.InputDecl.{InputDecl}
-use Rattle.df_machine.specs.Kinds.{is_input, is_output}
+use Rattle.df_cells.specs.declared.cells.CellId.{CellId}
+use Rattle.df_cells.specs.declared.cells.Dest.{Dest}
+use Rattle.df_cells.specs.declared.cells.Feed.{Feed}
+use Rattle.df_cells.specs.declared.cells.Feed.TheVariants.{Arc, Constant}
+use Rattle.df_cells.specs.declared.kinds.Kind.{Kind}
+use Rattle.df_cells.specs.declared.kinds.Kind.TheVariants as kind
+use Rattle.df_cells.specs.declared.cells.Cell.{Cell}
+use Rattle.df_cells.specs.declared.cells.InputDecl.{InputDecl}
+use Rattle.df_cells.specs.Kinds.{port_count, HasCanonicalRuns, is_input, is_output, is_buffer}
 
 -- ---- feeds
 
@@ -86,3 +86,32 @@ declared_by _ = None
 
 abbrev pub inputs_of : List Cell → List InputDecl
 inputs_of cells = filter_map (λ cell. declared_by cell.kind) cells
+
+-- ---- what the type of lists of cells keeps
+
+-- a cell has as many ports as its kind, and runs are canonical
+pub record IsCell (cell : Cell) : Type 0 where
+  pub ports : length cell.ports ≡ port_count cell.kind
+  pub runs : HasCanonicalRuns cell.kind
+
+pub record AreCells (cells : List Cell) : Type 0 where
+  pub few : length cells ≤ 65536
+  pub each : All IsCell cells
+
+-- ---- the ports at which arcs of the skeleton end
+
+abbrev pub is_buf : List Cell → ℕ → Bool
+is_buf cells c = is_buffer (cell_at cells c).kind
+
+-- one port, where an arc feeds it
+abbrev pub fed_port : Dest → Option CellId → List Dest
+fed_port d None = []
+fed_port d (Some u) = d ∷ []
+
+-- the ports of a cell that is no BUF cell, where arcs feed them
+abbrev pub fed_ports : List Cell → ℕ → List Dest
+fed_ports cells c = cond (is_buf cells c) [] (flat_map (λ p. fed_port (port_of c p) (producer_of cells (port_of c p))) (range_with_len 0 (length (cell_at cells c).ports)))
+
+-- those of all cells, in the order of cell and port
+abbrev pub skeleton_arcs : List Cell → List Dest
+skeleton_arcs cells = flat_map (fed_ports cells) (range_with_len 0 (length cells))
