@@ -1,7 +1,8 @@
 -- Lists of cells: what feeds what, and where inputs and results lie.
-use Rattle.std.specs.Prelude.{◌≡◌, ◌≤◌, ℕ, Bool, false, cond, ◌&&◌, ◌==◌, List, [], ◌∷◌, All, length, get_or, take, slice_get, Option, Some, None}
+use Rattle.std.specs.Prelude.{◌≡◌, ◌≤◌, ℕ, Bool, false, cond, ◌&&◌, ◌==◌, List, [], ◌∷◌, All, map, length, get_or, take, slice_get, Option, Some, None}
 use Rattle.std.specs.List.{count_by, filter_map, flat_map, range_with_len}
 use Rattle.df_values.specs.declared.values.Value.{Value}
+use Rattle.df_values.specs.Inputs.{Declaration}
 use Rattle.df_cells.specs.declared.cells.CellId.{CellId}
 use Rattle.df_cells.specs.declared.cells.Dest.{Dest}
 use Rattle.df_cells.specs.declared.cells.Feed.{Feed}
@@ -86,6 +87,14 @@ declared_by _ = None
 
 abbrev pub inputs_of : List Cell → List InputDecl
 inputs_of cells = filter_map (λ cell. declared_by cell.kind) cells
+
+-- what is declared of the list of values of an input
+abbrev pub declaration_of : InputDecl → Declaration
+declaration_of decl = record { basic = decl.basic; length = decl.length }
+
+-- what the IN cells declare of their lists, in order
+abbrev pub declarations : List Cell → List Declaration
+declarations cells = map declaration_of (inputs_of cells)
 
 -- ---- what the type of lists of cells keeps
 

@@ -1,5 +1,6 @@
 pub mod Counts
 pub mod Formed
+pub mod WellFormedRuns
 pub mod Fires
 pub mod Performs
 pub mod Arrives
@@ -18,6 +19,5 @@ pub mod LabelResults
 pub mod Steps
 pub mod Drained
 pub mod ThreeCellsRun
-pub mod RunValues
 pub mod Starts
 pub mod Turns

@@ -9,7 +9,8 @@ use Rattle.df_cells.specs.declared.kinds.Kind.{Kind}
 use Rattle.df_cells.specs.declared.kinds.Kind.TheVariants as kind
 use Rattle.df_machine.specs.declared.packets.Packet.{Packet}
 use Rattle.df_machine.specs.declared.packets.Packet.TheVariants.{Operation, Operand, Acknowledgement}
-use Rattle.df_machine.specs.Kinds.{Operands, operand, written, is_below, limit}
+use Rattle.df_cells.specs.Kinds.{limit}
+use Rattle.df_machine.specs.Kinds.{Operands, operand, written, is_below}
 use Rattle.df_cells.specs.Cells.{cell_at, outputs}
 use Rattle.df_machine.specs.CanRun.{CanRun}
 use Rattle.df_machine.specs.States.{State, start, is_busy, firings}

@@ -16,7 +16,7 @@ use Rattle.df_machine.specs.declared.packets.Packet.TheVariants.{Operation, Oper
 use Rattle.df_machine.specs.declared.packets.Event.TheVariants.{Fire}
 use Rattle.df_machine.specs.declared.sources.Sources.{Sources}
 use Rattle.df_machine.specs.declared.store.Store.{Store}
-use Rattle.df_machine.specs.Kinds.{limit}
+use Rattle.df_cells.specs.Kinds.{limit}
 use Rattle.df_machine.specs.CanRun.{CanRun}
 use Rattle.df_cells.specs.Cells.{cell_at, is_from}
 use Rattle.df_machine.specs.States.{State, is_busy, awaits, firings}
@@ -160,6 +160,7 @@ can_deliver cells inputs st after i (Acknowledgement d) loaded at is cap same =
 
 loaded_after : {sources : Sources} (cells : List Cell) (st new : Store) → IsLoaded cells sources st → Sound cells (state_of new) → Counted cells (state_of new) → Fed cells (state_of new) → KeepsRoom st new → IsLoaded cells sources new
 loaded_after cells st new loaded sound counted fed keeps = record {
+  well_formed = loaded.well_formed;
   formed = loaded.formed;
   numbered = loaded.numbered;
   sound = sound;

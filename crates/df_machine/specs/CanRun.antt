@@ -1,21 +1,14 @@
--- What the machine needs of its cells and inputs.
+-- What the machine needs of its cells: well-formed cells have it, and nothing else of them matters in a run.
 use Rattle.std.specs.Prelude.{◌≡◌, ◌⊎◌, ◌<◌, ◌≤◌, ◌+◌, ℕ, ℤ, pos, ◌+ℤ◌, true, cond, List, length, Some}
 use Rattle.std.specs.List.{count_by, AllByRecursion}
-use Rattle.df_values.specs.declared.values.Value.{Value}
-use Rattle.df_values.specs.declared.values.Basic.{Basic}
 use Rattle.df_values.specs.Values.{IsOrdinary}
 use Rattle.df_cells.specs.declared.cells.CellId.{CellId}
 use Rattle.df_cells.specs.declared.cells.Dest.{Dest}
 use Rattle.df_cells.specs.declared.cells.Cell.{Cell}
 use Rattle.df_cells.specs.declared.kinds.Kind.TheVariants as kind
-use Rattle.df_cells.specs.Kinds.{port_count, HasCanonicalRuns, source_length}
+use Rattle.df_cells.specs.Kinds.{source_length}
 use Rattle.df_machine.specs.Kinds.{Operands, wants}
-use Rattle.df_cells.specs.Cells.{cell_at, port_of, same_port, producer_of, is_from, inputs_before, values_of, outputs_before}
-
--- a cell has as many ports as its kind, and runs are canonical
-pub record IsCell (cell : Cell) : Type 0 where
-  pub ports : length cell.ports ≡ port_count cell.kind
-  pub runs : HasCanonicalRuns cell.kind
+use Rattle.df_cells.specs.Cells.{cell_at, port_of, same_port, producer_of, is_from, outputs_before, IsCell}
 
 -- The destinations of u are the ports that u feeds, each once.
 pub record HasDests (cells : List Cell) (u : ℕ) : Type 0 where
@@ -45,8 +38,3 @@ pub record CanRun (cells : List Cell) : Type 0 where
   pub indexed : (c : ℕ) (lo : ℤ) (n j : ℕ) → (cell_at cells c).kind ≡ kind.Idx lo n → j < n → IsOrdinary (lo +ℤ pos j)
   -- the OUT cells have the numbers 1, 2 and so on, in the order of the cells
   pub numbered : (c k m : ℕ) → (cell_at cells c).kind ≡ kind.Out k m → k ≡ outputs_before cells c + 1
-
--- inputs fit cells: one list for each IN cell, with as many values as it declares
-pub record Fits (cells : List Cell) (inputs : List (List Value)) : Type 0 where
-  pub count : length inputs ≡ inputs_before cells (length cells)
-  pub lengths : (c n : ℕ) (name : List ℕ) (basic : Basic) → (cell_at cells c).kind ≡ kind.In name basic n → length (values_of cells inputs c) ≡ n

@@ -11,7 +11,8 @@ use Rattle.df_machine.specs.declared.packets.Packet.{Packet}
 use Rattle.df_machine.specs.declared.packets.Packet.TheVariants.{Operation, Operand, Acknowledgement}
 use Rattle.df_machine.specs.declared.packets.Event.{Event}
 use Rattle.df_machine.specs.declared.packets.Event.TheVariants.{Fire, Perform, Arrive, Ack}
-use Rattle.df_machine.specs.Kinds.{Operands, per_port, limit, is_below, wants, answer, written}
+use Rattle.df_cells.specs.Kinds.{limit}
+use Rattle.df_machine.specs.Kinds.{Operands, per_port, is_below, wants, answer, written}
 use Rattle.df_cells.specs.Cells.{cell_at, port_of, cell_from, producer_of, values_of}
 use Rattle.df_machine.specs.States.{State, row, is_busy, awaits, firings}
 

@@ -8,7 +8,8 @@ use Rattle.df_cells.specs.declared.cells.Cell.{Cell}
 use Rattle.df_cells.specs.declared.kinds.Kind.TheVariants as kind
 use Rattle.df_machine.specs.declared.packets.Packet.{Packet}
 use Rattle.df_machine.specs.declared.packets.Packet.TheVariants.{Operation, Operand, Acknowledgement}
-use Rattle.df_machine.specs.Kinds.{Operands, operand, answer, limit}
+use Rattle.df_cells.specs.Kinds.{limit}
+use Rattle.df_machine.specs.Kinds.{Operands, operand, answer}
 use Rattle.df_cells.specs.Cells.{cell_at, producer_of, loaded_at, same_port, values_of}
 use Rattle.df_machine.specs.States.{State, start, row, place, firings}
 use Rattle.df_machine.specs.Events.{with_constants, takes, taken, enabled, possible, chosen}

@@ -1,10 +1,8 @@
 pub mod Kinds
-pub mod Cells
 pub mod CanRun
 pub mod States
 pub mod Events
 pub mod Runs
-pub mod Schedules
 pub mod Reports
 pub mod Sound
 pub mod Histories

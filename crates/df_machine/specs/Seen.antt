@@ -14,6 +14,7 @@ use Rattle.df_machine.specs.declared.sources.Sources.{Sources}
 use Rattle.df_machine.specs.declared.store.Store.{Store}
 use Rattle.df_machine.specs.Kinds.{Operands}
 use Rattle.df_cells.specs.Cells.{cell_at, producer_of, inputs_before}
+use Rattle.df_cells.specs.WellFormed.{WellFormed}
 use Rattle.df_machine.specs.CanRun.{CanRun}
 use Rattle.df_machine.specs.Events.{answers, answer_now, acknowledgements}
 use Rattle.df_machine.specs.Sound.{Sound, Counted, Fed}
@@ -85,6 +86,7 @@ pub record Loaded : Type 0 where
 
 -- what every machine keeps
 pub record IsLoaded (cells : List Cell) (sources : Sources) (s : Store) : Type 0 where
+  pub well_formed : WellFormed cells
   pub formed : CanRun cells
   pub numbered : AreNumbered cells sources
   pub sound : Sound cells (state_of s)

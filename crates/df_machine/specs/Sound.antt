@@ -8,7 +8,8 @@ use Rattle.df_cells.specs.declared.kinds.Kind.TheVariants as kind
 use Rattle.df_machine.specs.declared.packets.Packet.{Packet}
 use Rattle.df_machine.specs.declared.packets.Packet.TheVariants.{Operation, Operand, Acknowledgement}
 use Rattle.df_cells.specs.Cells.{cell_at, producer_of, same_port, outputs}
-use Rattle.df_machine.specs.Kinds.{Operands, per_port, wants, limit}
+use Rattle.df_cells.specs.Kinds.{limit}
+use Rattle.df_machine.specs.Kinds.{Operands, per_port, wants}
 use Rattle.df_machine.specs.States.{State, row, place, is_busy, awaits, firings}
 
 abbrev pub bit : Bool → ℕ

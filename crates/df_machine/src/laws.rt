@@ -1,5 +1,5 @@
-//! What holds of every run of cells that can be run, for all inputs and all choices.
-ghost use Rattle.df_machine.specs.Laws.{AlwaysKeepsArcs, NeverClashes, IsDeterminate, FollowsEquations, AccountsForValues, FollowsLabels, ResultsFollowLabels, HasAllResults, JoinsRuns, StaysDrained, CanRunThreeCells};
+//! What holds of every run of well-formed cells, for all inputs and all choices.
+ghost use Rattle.df_machine.specs.Laws.{AlwaysKeepsArcs, NeverClashes, IsDeterminate, FollowsEquations, AccountsForValues, FollowsLabels, ResultsFollowLabels, HasAllResults, JoinsRuns, StaysDrained, AreThreeCellsWellFormed};
 
 /// On each arc stands at most one operand or acknowledgement.
 pub fn always_keeps_arcs()
@@ -51,7 +51,7 @@ pub fn stays_drained()
     ensures { StaysDrained }
 {}
 
-/// An input, a sum with a constant and a result can be run.
-pub fn can_run_three_cells()
-    ensures { CanRunThreeCells }
+/// An input, a sum with a constant and a result are well-formed cells.
+pub fn three_cells_are_well_formed()
+    ensures { AreThreeCellsWellFormed }
 {}

@@ -1,14 +1,12 @@
 //! A static dataflow machine: instruction cells that pass values over arcs, one operand an arc.
 #![tactic(auto)]
 
-pub mod cells;
 mod kinds;
 pub mod laws;
 pub mod machine;
 mod operands;
 pub mod packets;
 pub mod runs;
-pub mod schedules;
 mod sources;
 mod store;
 #[cfg(test)]

@@ -1,15 +1,16 @@
 //! The machine: cells, their inputs and a state.
 ghost use Rattle.std.specs.Prelude.{◌≡◌, ◌<◌, ◌≤◌, ◌-◌, [], length, get_or, IsNone, IfOk, IsErr, OnErr, ◌↔◌, Some};
-ghost use Rattle.df_machine.specs.CanRun.{CanRun, Fits};
-ghost use Rattle.df_cells.specs.Cells.{outputs};
+ghost use Rattle.df_values.specs.Inputs.{AreValid};
+ghost use Rattle.df_cells.specs.Cells.{declarations, outputs};
+ghost use Rattle.df_cells.specs.WellFormed.{WellFormed};
 ghost use Rattle.df_machine.specs.Events as events;
 ghost use Rattle.df_machine.specs.Sound.{KeepsArcs};
 ghost use Rattle.df_machine.specs.States as states;
 
-use crate::cells::{CellId, Cells};
 use crate::packets::Event;
 use crate::sources::Sources;
 use crate::store::Store;
+use df_cells::cells::{CellId, Cells};
 use df_values::memory::Memory;
 use df_values::streams::Streams;
 use df_values::values::Value;
@@ -39,10 +40,10 @@ impl Model for Machine {
 }
 
 impl Machine {
-    /// The machine in its start state. The only error is want of memory.
+    /// The machine in its start state, with inputs as its `In` cells declare them. The only error is want of memory.
     pub fn load(alloc: Global, cells: Cells, inputs: Streams) -> Result<Machine, Memory>
-        requires can_run { CanRun cells }
-        requires fits { Fits cells inputs.lists }
+        requires well_formed { WellFormed cells }
+        requires fits { AreValid (declarations cells) inputs.lists }
         ensures cells { IfOk result (λ machine. machine.cells ≡ cells) }
         ensures inputs { IfOk result (λ machine. machine.inputs ≡ inputs.lists) }
         ensures state { IfOk result (λ machine. machine.state ≡ states.start cells) }
@@ -134,7 +135,7 @@ impl Machine {
     /// The cells.
     pub fn cells(&self) -> &Cells
         ensures cells { result.now ≡ self.now.cells }
-        ensures can_run { CanRun self.now.cells }
+        ensures well_formed { WellFormed self.now.cells }
         ensures arcs { KeepsArcs self.now.cells self.now.state }
         ensures results { length self.now.state.results ≡ outputs self.now.cells }
         ensures fired { length self.now.state.fired ≡ length self.now.cells }

@@ -4,7 +4,8 @@ ghost use Rattle.df_cells.specs.Cells.{cell_from};
 ghost use Rattle.df_machine.specs.Kinds as kinds;
 ghost use Rattle.df_machine.specs.Events as events;
 
-use crate::cells::{Cell, Feed, Kind};
+use df_cells::cells::{Cell, Feed};
+use df_cells::kinds::Kind;
 use df_values::values::{ErrorValue, Value};
 
 /// One entry for each port.

@@ -9,10 +9,12 @@ ghost use Rattle.df_machine.specs.Kinds as kinds;
 ghost use Rattle.df_machine.specs.Seen.{state_of, Aligned, AreNumbered, HasRoom, KeepsRoom, CanPerform, CanAcknowledge, CanDeliver};
 ghost use Rattle.df_machine.specs.States as states;
 
-use crate::cells::{CellId, Cells, Dest, Kind, Port};
+use crate::kinds::{answer, may_fire};
 use crate::operands::{Operands, has_operands, left, operand, taken, with_constants};
 use crate::packets::{Event, Packet};
 use crate::sources::Sources;
+use df_cells::cells::{CellId, Cells, Dest, Port};
+use df_cells::kinds::Kind;
 use df_values::memory::Memory;
 use df_values::streams::Streams;
 use df_values::values::Value;
@@ -141,7 +143,7 @@ impl Store {
         let it = cells.get(CellId(cell));
         !self.busy[index]
             && self.awaited[index] == 0
-            && it.kind.may_fire(self.fired[index])
+            && may_fire(&it.kind, self.fired[index])
             && has_operands(it, &self.places[index])
     }
 
@@ -197,7 +199,7 @@ impl Store {
         let offered = with_constants(it, operands);
         let turn = self.fired[index].saturating_sub(1);
         let values = sources.values(cells, CellId(cell));
-        let answer = it.kind.answer(turn, values, &offered);
+        let answer = answer(&it.kind, turn, values, &offered);
         self.busy[index] = false;
         self.awaited[index] = if answer.is_some() { it.dests.len() } else { 0 };
         push_answers(&mut self.packets, answer, it.dests.as_slice());

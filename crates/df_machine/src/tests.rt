@@ -4,12 +4,15 @@ ghost use Rattle.df_values.specs.declared.values.Value.TheVariants.{Int};
 ghost use Rattle.std.specs.Prelude.{pos};
 ghost use Rattle.df_machine.specs.ThreeCells.{three_cells};
 
-use crate::cells::{Cell, CellId, Cells, Dest, Dests, Feed, Kind, Port, Ports};
-use crate::laws::can_run_three_cells;
+
+use crate::laws::three_cells_are_well_formed;
 use crate::machine::{Machine, NoEvent};
 use crate::packets::Event;
 use crate::runs::{RunEnd, ScheduleChooser, run};
-use crate::schedules::{Choices, Schedule};
+use df_cells::cells::{Cell, CellId, Cells, Dest, Feed, Port};
+use df_cells::kinds::Kind;
+use df_cells::ports::{Dests, Ports};
+use df_cells::schedules::{Choices, Schedule};
 use df_values::memory::Memory;
 use df_values::name::Name;
 use df_values::streams::Streams;
@@ -85,7 +88,7 @@ fn a_constant_is_added(rt: HostRuntime) -> Result<(), Fail> {
     assert_eq!(rt; cells.len(), 3);
     assert_eq!(rt; cells.inputs()?.len(), 1);
     let inputs = one_input(alloc)?;
-    can_run_three_cells();
+    three_cells_are_well_formed();
     let mut machine = Machine::load(alloc, cells, inputs)?;
     assert_eq!(rt; machine.possible(), 1);
     assert_eq!(rt; machine.event(7), Some(Event::Fire(CellId(0))));

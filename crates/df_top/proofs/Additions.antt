@@ -16,7 +16,8 @@ use Rattle.df_cells.specs.declared.cells.CellId.{CellId}
 use Rattle.df_cells.specs.Cells.{cell_at, producer_of}
 use Rattle.df_machine.specs.Events.{takes}
 use Rattle.df_machine.specs.Histories.{Labels, Firing, Meets, IsRight, operands_of, took, supply, given_from, listed}
-use Rattle.df_machine.specs.Kinds.{Operands, answer, limit, no_operands}
+use Rattle.df_cells.specs.Kinds.{limit}
+use Rattle.df_machine.specs.Kinds.{Operands, answer, no_operands}
 use Rattle.df_machine.specs.ThreeCells.{three_cells}
 use Rattle.df_top.specs.Meanings.{construct, element}
 use Rattle.df_top.specs.declared.program.Program.{Program}

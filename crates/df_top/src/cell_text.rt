@@ -3,7 +3,8 @@ ghost use Rattle.std.specs.Prelude.{◌≡◌, ◌++◌, ◌∷◌, [], map, OnO
 ghost use Rattle.df_top.specs.PlainKinds.{IsPlain};
 ghost use Rattle.df_machine.specs.CellText.{spaced, run_word, port_word, dest_word, spelled_basic, kind_words, cell_line, cell_text};
 
-use df_machine::cells::{Cell, CellId, Cells, Dest, Feed, Kind, Run};
+use df_cells::cells::{Cell, CellId, Cells, Dest, Feed};
+use df_cells::kinds::{Kind, Run};
 use df_values::bytes::Bytes;
 use df_values::memory::Memory;
 use df_values::values::Basic;

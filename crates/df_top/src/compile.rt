@@ -7,7 +7,9 @@ ghost use Rattle.df_top.specs.Chain.{dests_at};
 ghost use Rattle.df_top.specs.Laws.{AlwaysFaithful};
 
 use crate::program::Program;
-use df_machine::cells::{Cell, CellId, Cells, Dest, Dests, Feed, Kind, Port, Ports};
+use df_cells::cells::{Cell, CellId, Cells, Dest, Feed, Port};
+use df_cells::kinds::Kind;
+use df_cells::ports::{Dests, Ports};
 use df_machine::laws::{
     can_run_three_cells, has_all_results, never_clashes, results_follow_labels,
 };

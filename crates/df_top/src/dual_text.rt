@@ -3,7 +3,7 @@ ghost use Rattle.std.specs.Prelude.{◌≡◌, ◌++◌, OnOk, IfOk};
 ghost use Rattle.df_top.specs.Duals.{arc_line, dual_text};
 ghost use Rattle.df_top.specs.DualFlows.{arcs_of};
 
-use df_machine::cells::Dest;
+use df_cells::cells::Dest;
 use df_values::bytes::Bytes;
 use df_values::memory::Memory;
 use std::alloc::Global;

@@ -20,7 +20,7 @@ use crate::schedule_text::{ScheduleAnswer, read_schedule};
 use crate::source::read_source;
 use crate::stop::Stop;
 use df_io::{FileMode, Files, ReadAnswer, read_all};
-use df_machine::schedules::Schedule;
+use df_cells::schedules::Schedule;
 use df_values::bytes::Bytes;
 use df_values::memory::Memory;
 use df_values::streams::Streams;

@@ -1,6 +1,6 @@
 //! What a command asks for, and what it writes.
 use crate::program::Program;
-use df_machine::schedules::Schedule;
+use df_cells::schedules::Schedule;
 use df_values::bytes::Bytes;
 use df_values::streams::Streams;
 

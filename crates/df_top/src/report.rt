@@ -2,7 +2,7 @@
 ghost use Rattle.std.specs.Prelude.{◌≡◌, ◌++◌, ◌∷◌, [], OnOk, IfOk};
 ghost use Rattle.df_top.specs.Reports.{report_text, result_lines, spaced_counts};
 
-use df_machine::cells::CellId;
+use df_cells::cells::CellId;
 use df_machine::machine::Machine;
 use df_machine::runs::RunEnd;
 use df_values::bytes::Bytes;

@@ -6,7 +6,7 @@ ghost use Rattle.df_top.specs.Separators.{separator, drain_piece};
 ghost use Rattle.df_top.specs.declared.schedule_text.ScheduleAnswer.TheVariants.{Memory as NoMemory};
 
 use crate::scanner::Scanner;
-use df_machine::schedules::{Choices, Schedule};
+use df_cells::schedules::{Choices, Schedule};
 use df_values::memory::Memory;
 use std::alloc::Global;
 
