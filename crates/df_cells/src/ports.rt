@@ -125,4 +125,3 @@ impl Dests {
         self.dests.as_slice()
     }
 }
-

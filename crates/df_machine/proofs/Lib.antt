@@ -1,4 +1,5 @@
 pub mod Counts
+pub mod FlightKeys
 pub mod Formed
 pub mod WellFormedRuns
 pub mod Fires

@@ -1,7 +1,6 @@
 -- What a step of a machine in memory needs, and what it leaves.
 use Rattle.std.proofs.Common.{◌≡◌, ℕ, zero, suc, ◌+◌, ◌-◌, ◌%◌, ◌<◌, ◌≤◌, true, List, [], ◌∷◌, ◌++◌, get_or, length, Option, Some, None, refl, sym, ◌∙◌, ap, subst, arith, Vec, vec_len, vec_capacity, length-append}
 use Rattle.std.specs.Prelude.{slice_get}
-use Rattle.std.specs.declared.alloc.Global.{Global}
 use Rattle.std.specs.List.{remove}
 use Rattle.std.proofs.lemmas.List.{length_push, nil_from_length}
 use Rattle.std.proofs.lemmas.Option.{slice_get_within, get_or_from_slice_get, slice_get_read}
@@ -11,6 +10,7 @@ use Rattle.df_cells.specs.declared.cells.CellId.{CellId}
 use Rattle.df_cells.specs.declared.kinds.Kind.{Kind}
 use Rattle.df_cells.specs.declared.kinds.Kind.TheVariants as kind
 use Rattle.df_cells.specs.declared.cells.Cell.{Cell}
+use Rattle.df_machine.specs.declared.flight.Flight.{Flight}
 use Rattle.df_machine.specs.declared.packets.Packet.{Packet}
 use Rattle.df_machine.specs.declared.packets.Packet.TheVariants.{Operation, Operand, Acknowledgement}
 use Rattle.df_machine.specs.declared.packets.Event.TheVariants.{Fire}
@@ -74,7 +74,7 @@ chosen_none cells inputs s k none =
 -- ---- what it needs
 
 pub fire_room : {sources : Sources} (cells : List Cell) (st : Store) (p c : ℕ) → IsLoaded cells sources st → slice_get (enabled cells (state_of st)) p ≡ Some c
-    → (c < length cells) × (vec_len st.packets < vec_capacity st.packets)
+    → (c < length cells) × (length st.packets.packets < st.packets.room)
 unfolding fire
 fire_room cells st p c loaded found =
     let s = state_of st in
@@ -83,7 +83,6 @@ fire_room cells st p c loaded found =
     let le = packets-le cells (fire cells s c) loaded.formed sound in
     let one : length (fire cells s c).packets ≡ length s.packets + 1 = length_push s.packets _ in
     let cap = loaded.packets in
-    let len : vec_len st.packets ≡ length s.packets = st.packets.ok.0 in
     (ready.0, omega arith)
 
 has_room : {sources : Sources} (cells : List Cell) (st : Store) (c : ℕ) (it : Kind) → IsLoaded cells sources st → is_busy (state_of st) c ≡ true → (cell_at cells c).kind ≡ it → HasRoom it st.results
@@ -107,7 +106,7 @@ can_answer cells s c (kind.Idx lo n) w counted busy is =
 can_answer cells s c _ w counted busy is = tt
 
 pub can_deliver : {sources : Sources} (cells : List Cell) (inputs : List (List Value)) (st after : Store) (i : ℕ) (packet : Packet) → IsLoaded cells sources st
-    → slice_get st.packets.items i ≡ Some packet → state_of after ≡ without (state_of st) i → vec_capacity st.packets ≤ vec_capacity after.packets → after.results ≡ st.results
+    → slice_get st.packets.packets i ≡ Some packet → state_of after ≡ without (state_of st) i → after.packets.room ≡ st.packets.room → after.results ≡ st.results
     → CanDeliver cells inputs after packet
 unfolding perform tokens
 can_deliver cells inputs st after i (Operation c x) loaded at is cap same =
@@ -121,7 +120,7 @@ can_deliver cells inputs st after i (Operation c x) loaded at is cap same =
     let l1 = length-append s1.packets (sent ++ acks) in
     let l2 = length-append sent acks in
     let now = ap (λ t. length (answers (answer_now cells inputs t c.0 x) (cell_at cells c.0).dests)) is in
-    let left : vec_len after.packets ≡ length (remove s.packets i) = after.packets.ok.0 ∙ ap (λ (t : State). length t.packets) is in
+    let left : length after.packets.packets ≡ length (remove s.packets i) = ap (λ (t : State). length t.packets) is in
     let most = loaded.packets in
     record {
       within = within_from_busy cells s c.0 loaded.sound busy;
@@ -181,7 +180,7 @@ loaded_fire cells st new p c loaded found is keeps =
     (subst (Fed cells) (sym is) (fed_from cells [] s 0 (Some c) (slice_get s.packets 0) loaded.formed loaded.sound loaded.fed ready refl))
     keeps
 
-pub loaded_deliver : {sources : Sources} (cells : List Cell) (inputs : List (List Value)) (st new : Store) (i : ℕ) (packet : Packet) → IsLoaded cells sources st → slice_get st.packets.items i ≡ Some packet
+pub loaded_deliver : {sources : Sources} (cells : List Cell) (inputs : List (List Value)) (st new : Store) (i : ℕ) (packet : Packet) → IsLoaded cells sources st → slice_get st.packets.packets i ≡ Some packet
     → state_of new ≡ deliver cells inputs (without (state_of st) i) packet → KeepsRoom st new → IsLoaded cells sources new
 loaded_deliver cells inputs st new i packet loaded at is keeps =
     let s = state_of st in
@@ -199,16 +198,15 @@ view_of cells inputs st = record { cells = cells; inputs = inputs; state = state
 abbrev pub stepped : Loaded → ℕ → Loaded
 stepped now k = record { cells = now.cells; inputs = now.inputs; state = chosen now.cells now.inputs now.state k }
 
-place_is : (cells : List Cell) (st : Store) (k a b : ℕ) → a ≡ length (enabled cells (state_of st)) → b ≡ vec_len st.packets → k % (a + b) ≡ k % possible cells (state_of st)
+place_is : (cells : List Cell) (st : Store) (k a b : ℕ) → a ≡ length (enabled cells (state_of st)) → b ≡ length st.packets.packets → k % (a + b) ≡ k % possible cells (state_of st)
 unfolding possible
-place_is cells st k a b ha hb = let len : b ≡ length st.packets.items = hb ∙ st.packets.ok.0 in ap (λ m. k % (m + b)) ha ∙ ap (λ m. k % (length (enabled cells (state_of st)) + m)) len
+place_is cells st k a b ha hb = ap (λ m. k % (m + b)) ha ∙ ap (λ m. k % (length (enabled cells (state_of st)) + m)) hb
 
 -- what the code counts is how many events are possible
-pub possible_is : (cells : List Cell) (inputs : List (List Value)) (st : Store) (now : Loaded) (a b : ℕ) → a ≡ length (enabled cells (state_of st)) → b ≡ vec_len st.packets
+pub possible_is : (cells : List Cell) (inputs : List (List Value)) (st : Store) (now : Loaded) (a b : ℕ) → a ≡ length (enabled cells (state_of st)) → b ≡ length st.packets.packets
     → view_of cells inputs st ≡ now → a + b ≡ possible now.cells now.state
 unfolding possible
 possible_is cells inputs st now a b ha hb view =
-    let len : b ≡ length st.packets.items = hb ∙ st.packets.ok.0 in
     let e : a + b ≡ possible cells (state_of st) = omega arith in
     e ∙ ap (λ (w : Loaded). possible w.cells w.state) view
 
@@ -221,11 +219,10 @@ event_none cells s k none =
     let g = nil_from_length s.packets (omega arith) in
     ap (λ l. event_from (slice_get l m) (slice_get s.packets (m - n))) e ∙ ap (λ l. event_from None (slice_get l (m - n))) g
 
-pub nothing_clauses : (cells : List Cell) (inputs : List (List Value)) (st : Store) (now : Loaded) (k a b : ℕ) → a ≡ length (enabled cells (state_of st)) → b ≡ vec_len st.packets
+pub nothing_clauses : (cells : List Cell) (inputs : List (List Value)) (st : Store) (now : Loaded) (k a b : ℕ) → a ≡ length (enabled cells (state_of st)) → b ≡ length st.packets.packets
     → a + b ≡ 0 → view_of cells inputs st ≡ now → (now ≡ stepped now k) × (possible now.cells now.state ≡ 0)
 unfolding possible
 nothing_clauses cells inputs st now k a b ha hb none view =
-    let len : b ≡ length st.packets.items = hb ∙ st.packets.ok.0 in
     let e : possible cells (state_of st) ≡ 0 = omega arith in
     let v : possible now.cells now.state ≡ 0 = ap (λ (w : Loaded). possible w.cells w.state) (sym view) ∙ e in
     (ap (λ t. record { cells = now.cells; inputs = now.inputs; state = t }) (sym (chosen_none now.cells now.inputs now.state k v)), v)
@@ -235,7 +232,7 @@ pub found_within : (cells : List Cell) (st : Store) (p cell : ℕ) (o : Option �
 found_within cells st p cell o ho is = sym ho ∙ is
 
 pub fire_clauses : (cells : List Cell) (inputs : List (List Value)) (st new : Store) (now : Loaded) (k a b : ℕ) (o : Option ℕ) (cell : ℕ)
-    → a ≡ length (enabled cells (state_of st)) → b ≡ vec_len st.packets → o ≡ slice_get (enabled cells (state_of st)) (k % (a + b)) → o ≡ Some cell
+    → a ≡ length (enabled cells (state_of st)) → b ≡ length st.packets.packets → o ≡ slice_get (enabled cells (state_of st)) (k % (a + b)) → o ≡ Some cell
     → state_of new ≡ fire cells (state_of st) cell → view_of cells inputs st ≡ now
     → (view_of cells inputs new ≡ stepped now k) × (chosen_event now.cells now.state k ≡ Some (Fire (record { 0 = cell })))
 fire_clauses cells inputs st new now k a b o cell ha hb ho is done view =
@@ -257,12 +254,9 @@ index_within cells st k a b o ha ho is some =
     let high : k % (a + b) < a + b = omega arith in
     (low, omega arith)
 
-pub packet_at : (st : Store) (i : ℕ) (packet : Packet) → i < vec_len st.packets → packet ≡ get_or st.packets.items i packet → slice_get st.packets.items i ≡ Some packet
-packet_at st i packet h read = slice_get_read st.packets.items (vec_len st.packets) i packet st.packets.ok.0 h read
-
 pub deliver_clauses : (cells : List Cell) (inputs : List (List Value)) (st new : Store) (now : Loaded) (k a b : ℕ) (o : Option ℕ) (packet : Packet)
-    → a ≡ length (enabled cells (state_of st)) → b ≡ vec_len st.packets → o ≡ slice_get (enabled cells (state_of st)) (k % (a + b)) → o ≡ None
-    → slice_get st.packets.items (k % (a + b) - a) ≡ Some packet
+    → a ≡ length (enabled cells (state_of st)) → b ≡ length st.packets.packets → o ≡ slice_get (enabled cells (state_of st)) (k % (a + b)) → o ≡ None
+    → slice_get st.packets.packets (k % (a + b) - a) ≡ Some packet
     → state_of new ≡ deliver cells inputs (without (state_of st) (k % (a + b) - a)) packet → view_of cells inputs st ≡ now
     → (view_of cells inputs new ≡ stepped now k) × (chosen_event now.cells now.state k ≡ Some (event_of packet))
 deliver_clauses cells inputs st new now k a b o packet ha hb ho is at done view =
@@ -274,39 +268,39 @@ deliver_clauses cells inputs st new now k a b o packet ha hb ho is at done view 
 
 -- ---- the step that takes a packet
 
-abbrev pub with_packets : Store → Vec Packet Global → Store
+abbrev pub with_packets : Store → Flight → Store
 with_packets st packets = record st { packets = packets }
 
-removed_is : (st : Store) (packets : Vec Packet Global) (i : ℕ) → packets.items ≡ remove st.packets.items i → state_of (with_packets st packets) ≡ without (state_of st) i
+removed_is : (st : Store) (packets : Flight) (i : ℕ) → packets.packets ≡ remove st.packets.packets i → state_of (with_packets st packets) ≡ without (state_of st) i
 removed_is st packets i e = ap (λ l. record (state_of st) { packets = l }) e
 
-pub deliver_can : {sources : Sources} (cells : List Cell) (inputs : List (List Value)) (st : Store) (packets : Vec Packet Global) (i : ℕ) (packet : Packet) → IsLoaded cells sources st
-    → slice_get st.packets.items i ≡ Some packet → packets.items ≡ remove st.packets.items i → vec_capacity packets ≡ vec_capacity st.packets
+pub deliver_can : {sources : Sources} (cells : List Cell) (inputs : List (List Value)) (st : Store) (packets : Flight) (i : ℕ) (packet : Packet) → IsLoaded cells sources st
+    → slice_get st.packets.packets i ≡ Some packet → packets.packets ≡ remove st.packets.packets i → packets.room ≡ st.packets.room
     → CanDeliver cells inputs (with_packets st packets) packet
 deliver_can cells inputs st packets i packet loaded at e cap =
     can_deliver cells inputs st (with_packets st packets) i packet loaded at (removed_is st packets i e) (omega arith) refl
 
-pub deliver_state : (cells : List Cell) (inputs : List (List Value)) (st new : Store) (packets : Vec Packet Global) (i : ℕ) (packet : Packet)
-    → packets.items ≡ remove st.packets.items i → state_of new ≡ deliver cells inputs (state_of (with_packets st packets)) packet
+pub deliver_state : (cells : List Cell) (inputs : List (List Value)) (st new : Store) (packets : Flight) (i : ℕ) (packet : Packet)
+    → packets.packets ≡ remove st.packets.packets i → state_of new ≡ deliver cells inputs (state_of (with_packets st packets)) packet
     → state_of new ≡ deliver cells inputs (without (state_of st) i) packet
 deliver_state cells inputs st new packets i packet e done =
     done ∙ ap (λ t. deliver cells inputs t packet) (removed_is st packets i e)
 
-pub deliver_keeps : (st new : Store) (packets : Vec Packet Global) → vec_capacity packets ≡ vec_capacity st.packets → KeepsRoom (with_packets st packets) new → KeepsRoom st new
+pub deliver_keeps : (st new : Store) (packets : Flight) → packets.room ≡ st.packets.room → KeepsRoom (with_packets st packets) new → KeepsRoom st new
 deliver_keeps st new packets cap keeps = record { packets = let k = keeps.packets in omega arith; results = keeps.results }
 
 -- ---- the event of a choice
 
 pub event_fire : (cells : List Cell) (inputs : List (List Value)) (st : Store) (now : Loaded) (k a b : ℕ) (o : Option ℕ) (cell : ℕ)
-    → a ≡ length (enabled cells (state_of st)) → b ≡ vec_len st.packets → o ≡ slice_get (enabled cells (state_of st)) (k % (a + b)) → o ≡ Some cell
+    → a ≡ length (enabled cells (state_of st)) → b ≡ length st.packets.packets → o ≡ slice_get (enabled cells (state_of st)) (k % (a + b)) → o ≡ Some cell
     → view_of cells inputs st ≡ now → Some (Fire (record { 0 = cell })) ≡ chosen_event now.cells now.state k
 event_fire cells inputs st now k a b o cell ha hb ho is view =
     let both = chosen_fire cells inputs (state_of st) k (k % (a + b)) cell (place_is cells st k a b ha hb) (sym ho ∙ is) in
     sym both.1 ∙ ap (λ (w : Loaded). chosen_event w.cells w.state k) view
 
 pub event_packet : (cells : List Cell) (inputs : List (List Value)) (st : Store) (now : Loaded) (k a b : ℕ) (o : Option ℕ) (packet : Packet)
-    → a ≡ length (enabled cells (state_of st)) → b ≡ vec_len st.packets → o ≡ slice_get (enabled cells (state_of st)) (k % (a + b)) → o ≡ None
-    → slice_get st.packets.items (k % (a + b) - a) ≡ Some packet → view_of cells inputs st ≡ now → Some (event_of packet) ≡ chosen_event now.cells now.state k
+    → a ≡ length (enabled cells (state_of st)) → b ≡ length st.packets.packets → o ≡ slice_get (enabled cells (state_of st)) (k % (a + b)) → o ≡ None
+    → slice_get st.packets.packets (k % (a + b) - a) ≡ Some packet → view_of cells inputs st ≡ now → Some (event_of packet) ≡ chosen_event now.cells now.state k
 event_packet cells inputs st now k a b o packet ha hb ho is at view =
     let p = k % (a + b) in
     let both = chosen_deliver cells inputs (state_of st) k p (p - a) packet (place_is cells st k a b ha hb) (sym ho ∙ is) (ap (λ m. p - m) ha) at in

@@ -1,5 +1,6 @@
 pub mod Kinds
 pub mod CanRun
+pub mod Flights
 pub mod States
 pub mod Events
 pub mod Runs

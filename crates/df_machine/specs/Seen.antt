@@ -1,5 +1,5 @@
 -- What the fields of a machine stand for.
-use Rattle.std.specs.Prelude.{◌≡◌, ◌<◌, ◌≤◌, ◌-◌, ◌+◌, ◌*◌, ℕ, pos, ◌+ℤ◌, Some, List, length, get_or, vec_len, vec_capacity}
+use Rattle.std.specs.Prelude.{◌≡◌, ◌<◌, ◌≤◌, ◌-◌, ◌+◌, ◌*◌, ℕ, pos, ◌+ℤ◌, Some, List, length, get_or}
 use Rattle.df_values.specs.declared.values.Value.{Value}
 use Rattle.df_values.specs.Values.{IsOrdinary}
 use Rattle.df_values.specs.Streams.{StreamLists, list_at, room_at}
@@ -26,7 +26,7 @@ state_of s = record {
   busy = s.busy.items;
   awaited = s.awaited.items;
   fired = s.fired.items;
-  packets = s.packets.items;
+  packets = s.packets.packets;
   results = s.results.lists;
 }
 
@@ -54,16 +54,16 @@ HasRoom _ results = Unit {0}
 
 -- nothing has less room than before
 pub record KeepsRoom (old new : Store) : Type 0 where
-  pub packets : vec_capacity old.packets ≤ vec_capacity new.packets
+  pub packets : new.packets.room ≡ old.packets.room
   pub results : (j : ℕ) → room_at old.results j ≤ room_at new.results j
 
 -- what the store needs to take a packet that is gone from it
 pub record CanPerform (cells : List Cell) (inputs : List (List Value)) (s : Store) (c : ℕ) (x : Operands) : Type 0 where
   pub within : c < length cells
   pub ordinary : CanAnswer (cell_at cells c).kind (firings (state_of s) c - 1)
-  pub room : vec_len s.packets
+  pub room : length s.packets.packets
       + (length (answers (answer_now cells inputs (state_of s) c x) (cell_at cells c).dests) + length (acknowledgements c x))
-      ≤ vec_capacity s.packets
+      ≤ s.packets.room
   pub results : HasRoom (cell_at cells c).kind s.results
 
 pub record CanAcknowledge (cells : List Cell) (s : Store) (d : Dest) : Type 0 where
@@ -93,5 +93,5 @@ pub record IsLoaded (cells : List Cell) (sources : Sources) (s : Store) : Type 0
   pub counted : Counted cells (state_of s)
   pub fed : Fed cells (state_of s)
   -- in flight are at most one firing of each cell and one operand or acknowledgement of each port
-  pub packets : 4 * length cells ≤ vec_capacity s.packets
+  pub packets : s.packets.room ≡ 4 * length cells
   pub results : (c k m : ℕ) → (cell_at cells c).kind ≡ kind.Out k m → m ≤ room_at s.results (k - 1)

@@ -1,6 +1,7 @@
 //! A static dataflow machine: instruction cells that pass values over arcs, one operand an arc.
 #![tactic(auto)]
 
+mod flight;
 mod kinds;
 pub mod laws;
 pub mod machine;

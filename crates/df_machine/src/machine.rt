@@ -79,7 +79,7 @@ impl Machine {
         let place = choice as usize % possible;
         match self.store.find_enabled(&self.cells, place) {
             Some(cell) => Some(Event::Fire(CellId(cell))),
-            None => Some(self.store.packets[place - enabled].event()),
+            None => Some(self.store.packets.get(place - enabled).event()),
         }
     }
 

@@ -1,5 +1,5 @@
 //! The state of a machine in memory, and what each event does to it.
-ghost use Rattle.std.specs.Prelude.{◌≡◌, ◌+◌, ◌-◌, ◌*◌, ◌^◌, ◌<◌, ◌≤◌, ◌++◌, ◌∷◌, ℕ, [], length, replicate, slice_get, vec_len, vec_capacity, IfOk, Some};
+ghost use Rattle.std.specs.Prelude.{◌≡◌, ◌+◌, ◌-◌, ◌*◌, ◌^◌, ◌<◌, ◌≤◌, ◌++◌, ◌∷◌, ℕ, [], length, replicate, slice_get, IfOk, Some};
 ghost use Rattle.df_values.specs.Streams.{list_at, room_at, KeepsRooms};
 ghost use Rattle.df_cells.specs.declared.kinds.Kind.TheVariants as kind;
 ghost use Rattle.df_cells.specs.Cells.{cell_at, outputs};
@@ -9,6 +9,7 @@ ghost use Rattle.df_machine.specs.Kinds as kinds;
 ghost use Rattle.df_machine.specs.Seen.{state_of, Aligned, AreNumbered, HasRoom, KeepsRoom, CanPerform, CanAcknowledge, CanDeliver};
 ghost use Rattle.df_machine.specs.States as states;
 
+use crate::flight::Flight;
 use crate::kinds::{answer, may_fire};
 use crate::operands::{Operands, has_operands, left, operand, taken, with_constants};
 use crate::packets::{Event, Packet};
@@ -28,7 +29,7 @@ pub struct Store {
     pub busy: Vec<bool>,
     pub awaited: Vec<usize>,
     pub fired: Vec<u32>,
-    pub packets: Vec<Packet>,
+    pub packets: Flight,
     pub results: Streams,
 }
 
@@ -43,53 +44,38 @@ fn repeated<T: Copy + Drop>(alloc: Global, item: T, count: u32) -> Result<Vec<T>
     Ok(items)
 }
 
-/// Adds an element where there is room.
-fn push_within<T: Drop>(items: &mut Vec<T>, item: T)
-    requires { vec_len items.old < vec_capacity items.old }
-    ensures items { items.new.items ≡ items.old.items ++ item ∷ [] }
-    ensures len { vec_len items.new ≡ vec_len items.old + 1 }
-    ensures capacity { vec_capacity items.old ≤ vec_capacity items.new }
-{
-    match items.push(item) {
-        Ok(()) => (),
-        Err(_) => (),
-    }
-}
-
 /// One packet for each destination, where there is an answer.
-fn push_answers(packets: &mut Vec<Packet>, answer: Option<Value>, dests: &[Dest])
-    requires { vec_len packets.old + length (events.answers answer dests.now) ≤ vec_capacity packets.old }
-    ensures items { packets.new.items ≡ packets.old.items ++ events.answers answer dests.now }
-    ensures len { vec_len packets.new ≡ vec_len packets.old + length (events.answers answer dests.now) }
-    ensures capacity { vec_capacity packets.old ≤ vec_capacity packets.new }
+fn push_answers(packets: &mut Flight, answer: Option<Value>, dests: &[Dest])
+    requires { length packets.old.packets + length (events.answers answer dests.now) ≤ packets.old.room }
+    ensures items { packets.new.packets ≡ packets.old.packets ++ events.answers answer dests.now }
+    ensures room { packets.new.room ≡ packets.old.room }
 {
     if let Some(value) = answer {
         for dest in dests {
-            push_within(packets, Packet::Operand { to: *dest, value });
+            packets.push(Packet::Operand { to: *dest, value });
         }
     }
 }
 
-fn push_acknowledgement(packets: &mut Vec<Packet>, cell: CellId, port: u8, operand: Option<Value>)
-    requires { vec_len packets.old + length (events.acknowledgement cell.0 port operand) ≤ vec_capacity packets.old }
-    ensures items { packets.new.items ≡ packets.old.items ++ events.acknowledgement cell.0 port operand }
-    ensures len { vec_len packets.new ≡ vec_len packets.old + length (events.acknowledgement cell.0 port operand) }
-    ensures capacity { vec_capacity packets.old ≤ vec_capacity packets.new }
+fn push_acknowledgement(packets: &mut Flight, cell: CellId, port: u8, operand: Option<Value>)
+    requires { length packets.old.packets + length (events.acknowledgement cell.0 port operand) ≤ packets.old.room }
+    ensures items { packets.new.packets ≡ packets.old.packets ++ events.acknowledgement cell.0 port operand }
+    ensures room { packets.new.room ≡ packets.old.room }
 {
     if operand.is_some() {
         let from = Dest {
             cell,
             port: Port(port),
         };
-        push_within(packets, Packet::Acknowledgement { from });
+        packets.push(Packet::Acknowledgement { from });
     }
 }
 
 /// One acknowledgement for each operand that was taken.
-fn push_acknowledgements(packets: &mut Vec<Packet>, cell: CellId, operands: &Operands)
-    requires { vec_len packets.old + length (events.acknowledgements cell.0 operands.now) ≤ vec_capacity packets.old }
-    ensures items { packets.new.items ≡ packets.old.items ++ events.acknowledgements cell.0 operands.now }
-    ensures capacity { vec_capacity packets.old ≤ vec_capacity packets.new }
+fn push_acknowledgements(packets: &mut Flight, cell: CellId, operands: &Operands)
+    requires { length packets.old.packets + length (events.acknowledgements cell.0 operands.now) ≤ packets.old.room }
+    ensures items { packets.new.packets ≡ packets.old.packets ++ events.acknowledgements cell.0 operands.now }
+    ensures room { packets.new.room ≡ packets.old.room }
 {
     push_acknowledgement(packets, cell, 0, operands[0]);
     push_acknowledgement(packets, cell, 1, operands[1]);
@@ -118,7 +104,7 @@ impl Store {
     pub fn start(alloc: Global, cells: &Cells) -> Result<Store, Memory>
         requires { CanRun cells.now }
         ensures state { IfOk result (λ store. state_of store ≡ states.start cells.now) }
-        ensures packets { IfOk result (λ store. 4 * length cells.now ≤ vec_capacity store.packets) }
+        ensures packets { IfOk result (λ store. store.packets.room ≡ 4 * length cells.now) }
         ensures results { IfOk result (λ store. (c k m : ℕ) → (cell_at cells.now c).kind ≡ kind.Out k m → m ≤ room_at store.results (k - 1)) }
     {
         let count = cells.len();
@@ -127,7 +113,7 @@ impl Store {
             busy: repeated(alloc, false, count)?,
             awaited: repeated(alloc, 0, count)?,
             fired: repeated(alloc, 0, count)?,
-            packets: Vec::with_capacity(alloc, 4 * count as usize)?,
+            packets: Flight::with_room(alloc, 4 * count as usize)?,
             results: empty_results(alloc, cells)?,
         })
     }
@@ -153,7 +139,7 @@ impl Store {
         requires within { cell < length cells.now }
         requires aligned { Aligned cells.now (state_of self.old) }
         requires fits { states.firings (state_of self.old) cell + 1 < 2 ^ 32 }
-        requires room { vec_len self.old.packets < vec_capacity self.old.packets }
+        requires room { length self.old.packets.packets < self.old.packets.room }
         ensures state { state_of self.new ≡ events.fire cells.now (state_of self.old) cell }
         ensures keeps { KeepsRoom self.old self.new }
     {
@@ -167,7 +153,7 @@ impl Store {
             cell: CellId(cell),
             operands: taken(it, &places),
         };
-        push_within(&mut self.packets, operation);
+        self.packets.push(operation);
     }
 
     /// Adds the operand of an output to its result.

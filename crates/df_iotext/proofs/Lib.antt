@@ -1,0 +1,13 @@
+pub mod WordLemmas
+pub mod NumberLemmas
+pub mod PrintLemmas
+pub mod ScheduleLemmas
+pub mod LineLemmas
+pub mod AssignmentLemmas
+pub mod ReaderLemmas
+pub mod ValueLemmas
+pub mod OneReading
+pub mod SomeReading
+pub mod OneSchedule
+pub mod PrintedSchedules
+pub mod SomeSchedule

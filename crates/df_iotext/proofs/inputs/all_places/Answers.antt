@@ -1,0 +1,10 @@
+use Rattle.std.proofs.Common.{refl, length}
+use Rattle.std.proofs.lemmas.Option.{slice_get_read}
+use Rattle.df_iotext.proofs.ReaderLemmas.{one_place_more}
+use Rattle.df_iotext.proofs.inputs.all_places.Goals as goal
+
+pub loop-k-preserved : goal.loop-k-preserved
+loop-k-preserved c =
+    let below = c.loop-k-test.true in
+    let at = slice_get_read c.args.decls.now (length c.args.decls.now) c.loop-k.k c.index-decls-k.result refl below c.index-decls-k.is in
+    one_place_more c.args.decls.now c.loop-k.open.entries c.insert.new.self.entries c.loop-k.k c.index-decls-k.result c.requires.names at c.loop-k.invariant c.in_ok-insert.ensures.updates.0

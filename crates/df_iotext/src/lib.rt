@@ -1,0 +1,14 @@
+//! The texts of inputs, schedules and results: read from bytes and printed to bytes.
+#![tactic(auto)]
+
+mod assignments;
+pub mod inputs;
+mod keys;
+pub mod laws;
+pub mod lines;
+pub mod numbers;
+pub mod printing;
+pub mod schedules;
+#[cfg(test)]
+mod tests;
+pub mod words;
