@@ -66,7 +66,7 @@ none_behind : (x : Dest) (xs : List Dest) → AreRising (x ∷ xs) → (d : Dest
 none_behind x [] rising d near = refl
 none_behind x (y ∷ ys) rising d near =
     let xy = before_means x y rising.0 in
-    let dy : Before d y = elim near [ | inl before ↦ before_before d x y before xy | inr same ↦ subst (λ z. Before z y) (sym same) xy ] in
+    let dy : Before d y = elim near [ inl before ↦ before_before d x y before xy | inr same ↦ subst (λ z. Before z y) (sym same) xy ] in
     let none = none_behind y ys rising.1 d (inl dy) in
     let no : bit (same_port d y) ≡ 0 = ap bit (not_itself d y dy) in
     let l = sum_by-cons (λ z. bit (same_port d z)) y ys in omega arith
@@ -132,7 +132,7 @@ none_past cells u w past =
     }
 
 all_dests : (cells : List Cell) → WellFormed cells → (u : ℕ) → HasDests cells u
-all_dests cells w u = elim (cases_lt u (length cells)) [ | inl within ↦ listed_once cells u (w.dest u within) | inr past ↦ none_past cells u w past ]
+all_dests cells w u = elim (cases_lt u (length cells)) [ inl within ↦ listed_once cells u (w.dest u within) | inr past ↦ none_past cells u w past ]
 
 -- ---- what makes a cell fire
 

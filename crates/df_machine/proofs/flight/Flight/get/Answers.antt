@@ -12,5 +12,5 @@ pub returns : goal.returns
 returns c =
     ap (λ f. slice_get f.packets c.args.place) (sym c.self.view_is)
     ∙ packet_there c.self.inside.packets c.self.inside.keys.items c.args.place c.index.result.now c.index-2.result.now
-      (key_at c.self.inside.packets c.self.inside.keys.items c.args.self.now.packets c.args.place c.index.result.now (ap (λ f. f.packets) c.self.view_is) c.requires c.index.ensures)
-      c.index-2.ensures
+    (key_at c.self.inside.packets c.self.inside.keys.items c.args.self.now.packets c.args.place c.index.result.now (ap (λ f. f.packets) c.self.view_is) c.requires c.index.ensures)
+    c.index-2.ensures

@@ -18,8 +18,8 @@ pub returns-clause-value : goal.returns-clause-value
 returns-clause-value c =
     ap (λ f. slice_get f.packets c.args.place) (sym c.self.view_is)
     ∙ packet_there c.self.inside.packets c.self.inside.keys.items c.args.place c.remove-key.result c.remove.result
-      (key_at c.self.inside.packets c.self.inside.keys.items c.args.self.now.packets c.args.place c.remove-key.result (ap (λ f. f.packets) c.self.view_is) c.requires c.remove-key.ensures.value)
-      c.remove.ensures.value
+    (key_at c.self.inside.packets c.self.inside.keys.items c.args.self.now.packets c.args.place c.remove-key.result (ap (λ f. f.packets) c.self.view_is) c.requires c.remove-key.ensures.value)
+    c.remove.ensures.value
 
 pub returns-clause-packets : goal.returns-clause-packets
 returns-clause-packets c =
