@@ -1,21 +1,18 @@
 -- What is made when a machine is loaded.
-use Rattle.std.proofs.Common.{◌≡◌, ℕ, ◌+◌, ◌-◌, ◌<◌, ◌≤◌, Bool, true, false, List, [], ◌∷◌, ◌++◌, get_or, take, map, length, replicate, Option, Some, None, refl, sym, ◌∙◌, ap, inl, inr, arith}
+use Rattle.std.proofs.Common.{◌≡◌, ℕ, ◌+◌, ◌-◌, ◌<◌, ◌≤◌, Bool, true, false, List, [], ◌∷◌, ◌++◌, get_or, map, length, replicate, Option, Some, None, refl, sym, ◌∙◌, ap, inl, inr, arith}
 use Rattle.std.specs.Prelude.{slice_get}
-use Rattle.std.specs.List.{cons_option}
-use Rattle.std.proofs.lemmas.List.Elements.{filter_map-append}
 use Rattle.std.proofs.lemmas.List.Sums.{sum_by-take-le, count_by-le-length}
-use Rattle.std.proofs.lemmas.List.{take_more, take_all, replicate_more, length-replicate, length_push, get_or_append_left}
+use Rattle.std.proofs.lemmas.List.{take_all, replicate_more, length-replicate, length_push, get_or_append_left}
 use Rattle.std.proofs.lemmas.Option.{none-some, same_Some}
 use Rattle.std.proofs.lemmas.Bool.{cases_lt, cases_eq}
 use Rattle.df_values.specs.declared.values.Value.{Value}
 use Rattle.df_values.specs.Streams.{StreamLists, room_at, KeepsRooms}
 use Rattle.df_cells.specs.declared.cells.Cell.{Cell}
-use Rattle.df_cells.specs.declared.cells.InputDecl.{InputDecl}
 use Rattle.df_cells.specs.declared.kinds.Kind.{Kind}
 use Rattle.df_cells.specs.declared.kinds.Kind.TheVariants as kind
 use Rattle.df_cells.specs.Kinds.{is_input, is_output, result_length}
 use Rattle.df_machine.specs.Kinds.{Operands, no_operands}
-use Rattle.df_cells.specs.Cells.{loaded_from, cell_at, declared_by, inputs_of, inputs_before, outputs, outputs_before}
+use Rattle.df_cells.specs.Cells.{loaded_from, cell_at, inputs_before, outputs, outputs_before}
 use Rattle.df_machine.specs.CanRun.{CanRun}
 use Rattle.df_machine.specs.declared.packets.Packet.{Packet}
 use Rattle.df_machine.specs.States.{State, first_places, first_awaited, start}

@@ -1,11 +1,10 @@
 -- Well-formed cells can be run.
-use Rattle.std.proofs.Common.{◌≡◌, ◌≢◌, ◌⊎◌, ℕ, zero, suc, ◌+◌, ◌<◌, ◌≤◌, Bool, true, false, cond, eqb, List, [], ◌∷◌, get_or, length, Option, Some, None, IsTrue, refl, sym, ◌∙◌, ap, subst, inl, inr, arith}
-use Rattle.std.specs.Prelude.{ℤ, All, Contains, nat_lt, ◌&&◌, ◌||◌, ◌==◌}
+use Rattle.std.proofs.Common.{◌≡◌, ◌⊎◌, ℕ, zero, suc, ◌<◌, ◌≤◌, true, false, cond, List, [], ◌∷◌, get_or, length, Option, Some, None, refl, sym, ◌∙◌, ap, subst, inl, inr, arith}
+use Rattle.std.specs.Prelude.{ℤ, All, nat_lt, ◌&&◌, ◌==◌}
 use Rattle.std.specs.List.{count_by, AllByRecursion}
 use Rattle.std.proofs.lemmas.List.Sums.{sum_by-cons}
 use Rattle.std.proofs.lemmas.List.{get_or_past}
-use Rattle.std.proofs.lemmas.Bool.{cases_lt, cases_eq, cases_Bool, eq-eqb, ne_eqb, eqb-true, and_parts, or_cases, ltb-true}
-use Rattle.std.proofs.lemmas.Option.{none-some}
+use Rattle.std.proofs.lemmas.Bool.{cases_lt, cases_Bool, eq-eqb, eqb-true, and_parts, or_cases, ltb-true}
 use Rattle.df_values.specs.declared.values.Value.{Value}
 use Rattle.df_values.specs.declared.values.Value.TheVariants.{Int, Truth, Error}
 use Rattle.df_cells.specs.declared.cells.CellId.{CellId}
@@ -13,9 +12,9 @@ use Rattle.df_cells.specs.declared.cells.Dest.{Dest}
 use Rattle.df_cells.specs.declared.cells.Cell.{Cell}
 use Rattle.df_cells.specs.declared.kinds.Kind.{Kind}
 use Rattle.df_cells.specs.declared.kinds.Kind.TheVariants as kind
-use Rattle.df_cells.specs.Kinds.{source_length, limit}
-use Rattle.df_cells.specs.Cells.{no_cell, cell_at, port_of, same_port, producer_of, is_from}
-use Rattle.df_cells.specs.WellFormed.{is_before, BeginsAfter, AreRising, ListsItsArcs, is_controlled, WaitsForOperands, WellFormed}
+use Rattle.df_cells.specs.Kinds.{source_length}
+use Rattle.df_cells.specs.Cells.{no_cell, cell_at, same_port, producer_of, is_from}
+use Rattle.df_cells.specs.WellFormed.{is_before, AreRising, ListsItsArcs, is_controlled, WaitsForOperands, WellFormed}
 use Rattle.df_machine.specs.Kinds.{Operands, wants, merge_wants}
 use Rattle.df_machine.specs.Sound.{bit}
 use Rattle.df_machine.specs.CanRun.{HasDests, IsSource, IsDriven, CanRun}

@@ -1,5 +1,5 @@
 -- What each kind of cell does: one table for the operands that a firing takes, one for its answer, and one for what it writes.
-use Rattle.std.specs.Prelude.{ℕ, ◌-◌, ◌==◌, nat_lt, pos, ◌+ℤ◌, Bool, true, false, cond, not, List, [], ◌∷◌, ◌++◌, get_or, set, slice_get, Option, Some, None}
+use Rattle.std.specs.Prelude.{ℕ, ◌-◌, ◌==◌, nat_lt, pos, ◌+ℤ◌, Bool, true, cond, not, List, [], ◌∷◌, ◌++◌, get_or, set, slice_get, Option, Some, None}
 use Rattle.std.specs.Option.{unwrap_or}
 use Rattle.df_values.specs.declared.values.Value.{Value}
 use Rattle.df_values.specs.declared.values.Value.TheVariants.{Int, Truth, Error}
