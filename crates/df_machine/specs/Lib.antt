@@ -11,5 +11,4 @@ pub mod Laws
 pub mod Seen
 pub mod Turns
 pub mod ThreeCells
-pub mod CellText
 pub mod Rows

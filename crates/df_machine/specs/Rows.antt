@@ -20,7 +20,6 @@ use Rattle.df_machine.specs.Events.{is_enabled, enabled, possible, fire, perform
 use Rattle.df_machine.specs.Runs.{after, events}
 use Rattle.df_machine.specs.Reports.{report}
 use Rattle.df_machine.specs.ThreeCells.{three_cells}
-use Rattle.df_machine.specs.CellText.{cell_text}
 
 -- a cell that is on no loop, and one on the loop of number 1
 abbrev outside : Kind → ℕ → List Feed → List Dest → Cell
@@ -44,11 +43,6 @@ row_1_drained : report row_1 ((number 5 ∷ []) ∷ []) (replicate 100 0)
     ≡ record { drained = true; events = 10; results = (number 6 ∷ []) ∷ []; fired = 1 ∷ 1 ∷ 1 ∷ [] }
 unfolding row_1 report after events start possible enabled is_enabled chosen chosen_event next event_at fire perform arrive acknowledge answer written tables.answer least greatest
 row_1_drained = refl
-
-row_1_text : cell_text row_1
-    ≡ codes "dataflow 1 3\n0 IN A integer 1 stage 0 loop 0 ports dests 1.0\n1 ADD stage 1 loop 0 ports @0 =1 dests 2.0\n2 OUT 1 1 stage 2 loop 0 ports @1 dests\nend\n"
-unfolding row_1 digits
-row_1_text = refl
 
 row_2 : report row_1 ((number 5 ∷ []) ∷ []) (0 ∷ 0 ∷ 0 ∷ [])
     ≡ record { drained = false; events = 3; results = [] ∷ []; fired = 1 ∷ 0 ∷ 0 ∷ [] }
@@ -93,11 +87,6 @@ row_4_mixed : report row_4 ((number 10 ∷ number 20 ∷ []) ∷ []) (4294967295
 unfolding row_4 report after events start possible enabled is_enabled chosen chosen_event next event_at fire perform arrive acknowledge answer written tables.answer least greatest
 row_4_mixed = refl
 
-row_4_text : cell_text row_4
-    ≡ codes "dataflow 1 7\n0 IN A integer 2 stage 0 loop 0 ports dests 1.0 5.0\n1 ADD stage 1 loop 0 ports @0 =1 dests 2.0\n" ++ codes "2 MUL stage 2 loop 0 ports @1 =2 dests 3.1\n3 ADD stage 3 loop 0 ports @6 @2 dests 4.0\n4 OUT 1 2 stage 4 loop 0 ports @3 dests\n" ++ codes "5 BUF stage 1 loop 0 ports @0 dests 6.0\n6 BUF stage 2 loop 0 ports @5 dests 3.0\nend\n"
-unfolding row_4 digits
-row_4_text = refl
-
 -- ---- a loop, with a MERGE and a gate under lists of truth values
 
 row_10 : List Cell
@@ -116,11 +105,6 @@ row_10_drained : report row_10 ((number 2 ∷ number 3 ∷ number 4 ∷ []) ∷ 
 unfolding row_10 report after events start possible enabled is_enabled chosen chosen_event next event_at fire perform arrive acknowledge answer written tables.answer least greatest
 row_10_drained = refl
 
-row_10_text : cell_text row_10
-    ≡ codes "dataflow 1 7\n0 IN A integer 3 stage 0 loop 0 ports dests 5.1\n1 MERGE stage 1 loop 1 ports @2 =1 @5 dests 3.1 6.0\n" ++ codes "2 CTL 1*true 3*false stage 0 loop 0 ports dests 1.0\n3 TGATE stage 1 loop 1 ports @4 @1 dests 5.0\n4 CTL 3*true 1*false stage 0 loop 0 ports dests 3.0\n" ++ codes "5 MUL stage 1 loop 1 ports @3 @0 dests 1.2\n6 OUT 1 4 stage 2 loop 0 ports @1 dests\nend\n"
-unfolding row_10 digits
-row_10_text = refl
-
 -- ---- two cells in a ring, neither of which can begin
 
 ring : List Cell
@@ -132,7 +116,3 @@ ring =
 ring_drained : report ring [] (replicate 10 0) ≡ record { drained = true; events = 0; results = []; fired = 0 ∷ 0 ∷ [] }
 unfolding ring report after events start possible enabled is_enabled chosen chosen_event next event_at fire perform arrive acknowledge answer written tables.answer tables.negation least greatest
 ring_drained = refl
-
-ring_text : cell_text ring ≡ codes "dataflow 1 2\n0 NEG stage 0 loop 1 ports @1 dests 1.0\n1 NEG stage 0 loop 1 ports @0 dests 0.0\nend\n"
-unfolding ring digits
-ring_text = refl
