@@ -1,0 +1,15 @@
+pub mod CellLines
+pub mod CutLemmas
+pub mod OptionLemmas
+pub mod NumberLemmas
+pub mod LoopLemmas
+pub mod WordLemmas
+pub mod KindLemmas
+pub mod LineLemmas
+pub mod SolidLemmas
+pub mod RowLemmas
+pub mod TextLemmas
+pub mod WrongLemmas
+pub mod AnswerLemmas
+pub mod OneWrongLine
+pub mod SomeAnswer

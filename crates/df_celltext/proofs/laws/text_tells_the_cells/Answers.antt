@@ -1,0 +1,5 @@
+use Rattle.df_celltext.proofs.TextLemmas.{one_list}
+use Rattle.df_celltext.proofs.laws.text_tells_the_cells.Goals as goal
+
+pub returns : goal.returns
+returns c text a b g h = one_list text a b g h
