@@ -1,0 +1,4 @@
+pub mod Checked
+pub mod DualTexts
+pub mod LinesRead
+pub mod Rows
