@@ -1,0 +1,10 @@
+pub mod Cuts
+pub mod NextRows
+pub mod Tables
+pub mod Traces
+pub mod Ranks
+pub mod Pushes
+pub mod Residues
+pub mod Cancels
+pub mod Lowers
+pub mod Stages
