@@ -1,3 +1,17 @@
 pub mod Classes
 pub mod Spellings
 pub mod OneReading
+pub mod ClassCodes
+pub mod SomeText
+pub mod Prefixes
+pub mod Factored
+pub mod OneTree
+pub mod Levels
+pub mod Plain
+pub mod SameFronts
+pub mod SourceReading
+pub mod Refused
+pub mod WorkedRows
+pub mod Folds
+pub mod Bounds
+pub mod SourceBounds

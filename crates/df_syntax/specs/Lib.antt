@@ -4,3 +4,11 @@ pub mod Places
 pub mod TokenList
 pub mod Pieces
 pub mod Tokens
+pub mod TokenClasses
+pub mod Grammar
+pub mod Lines
+pub mod Parses
+pub mod Reading
+pub mod Refusals
+pub mod Examples
+pub mod WellBuilt

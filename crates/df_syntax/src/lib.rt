@@ -1,7 +1,10 @@
-//! The tokens of a source: what they are, how they are spelled, and how a text falls into them.
+//! The tokens and the trees of a source: what tokens are and how a text falls into them, the
+//! grammar, and the trees that it gives.
 #![tactic(auto)]
 
 pub mod laws;
+pub mod program;
 pub mod symbol;
 pub mod token;
+pub mod tree;
 pub mod word;
