@@ -1,0 +1,31 @@
+use Rattle.std.proofs.Common.{rules, ◌≡◌, ◌≢◌, ◌∙◌, sym, arith, [], ◌∷◌}
+use Rattle.std.proofs.lemmas.Grind.{common_steps}
+use Rattle.df_grammar.specs.declared.error.ParseError.TheVariants.{Memory}
+use Rattle.df_grammar.specs.Parts as p
+use Rattle.df_grammar.proofs.Chains.{all, line_shrinks, arms_starts, solid_next_arm, turn, failed, done}
+use Rattle.df_grammar.proofs.descent.Descent.arms.Goals as goal
+
+pub parts-init : goal.parts-init
+parts-init g' c =
+    let one : c.push.new.self ≡ c.in_ok-first.first ∷ [] = rw (c.in_ok-push.ensures.ok, c.new-all.ensures) in
+    record { read = rw one (arms_starts _ _ _ _ c.in_ok-first.ensures.0); shorter = c.in_ok-first.ensures.1 }
+
+pub parts-preserved : goal.parts-preserved
+parts-preserved g' c =
+    record {
+      read = rw c.in_ok-push-2.ensures.ok (turn c.args.self.now.depth 1 p.next_arm solid_next_arm _ _ all c.parts.all _ _ _ c.parts.invariant.read (sym c.sees_word.ensures ∙ c.parts-test.true) c.in_ok-next_arm.ensures.0);
+      shorter = omega (arith, c.in_ok-next_arm.ensures.1, c.parts.invariant.shorter);
+    }
+
+pub parts-smaller : goal.parts-smaller
+parts-smaller g' c = omega (arith, line_shrinks _ 1 p.next_arm solid_next_arm _ _ _ c.in_ok-next_arm.ensures.0)
+
+pub returns-in_err-next_arm : goal.returns-in_err-next_arm
+returns-in_err-next_arm g' c =
+    let known = λ (n : c.in_err-next_arm.field-0.0 ≢ Memory). failed c.args.self.now.depth 1 p.next_arm solid_next_arm _ _ all c.parts.all _ _ _ c.parts.invariant.read (sym c.sees_word.ensures ∙ c.parts-test.true) (c.in_err-next_arm.ensures n) in
+    first_of (search rules, grind (arith, common_steps))
+
+pub returns : goal.returns
+returns g' c =
+    let known = done c.args.self.now.depth 1 p.next_arm solid_next_arm _ _ all c.parts.all _ c.parts.invariant.read (sym c.sees_word.ensures ∙ c.parts-test.false) in
+    first_of (search rules, grind (arith, common_steps))

@@ -1,0 +1,16 @@
+use Rattle.std.proofs.Common.{◌≡◌, ◌≤◌, [], ◌∷◌, length}
+use Rattle.df_forms.specs.Reading.{collect}
+use Rattle.df_syntax.specs.declared.word.Reserved.TheVariants as r
+use Rattle.df_syntax.specs.TokenClasses.{class, word_code}
+use Rattle.df_syntax.specs.Grammar as g
+use Rattle.df_syntax.specs.Reading.{reads}
+use Rattle.df_grammar.proofs.descent.Descent.constants.Given as goal
+
+abbrev pub invariant-parts : goal.invariant-parts
+invariant-parts g' v = record {
+  read : reads v.self.depth 1 g.constants v.fn.tokens.rest.now ≡ collect class (reads v.self.depth 1 g.constant) (word_code r.Constant ∷ []) v.all v.tokens.rest.now;
+  shorter : length v.tokens.rest.now ≤ length v.fn.tokens.rest.now;
+}
+
+abbrev pub decreases-parts : goal.decreases-parts
+decreases-parts g' v = length v.tokens.rest.now

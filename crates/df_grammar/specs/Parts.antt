@@ -1,0 +1,47 @@
+-- Parts of lines that are read turn by turn or twice.
+use Rattle.df_forms.specs.Form.{again}
+use Rattle.df_syntax.specs.declared.word.Reserved.TheVariants as r
+use Rattle.df_syntax.specs.declared.symbol.Symbol.TheVariants as s
+use Rattle.df_syntax.specs.declared.tree.Named.{Named}
+use Rattle.df_syntax.specs.declared.tree.Sort.{Sort}
+use Rattle.df_syntax.specs.declared.tree.Expr.{Expr}
+use Rattle.df_syntax.specs.declared.tree.Arm.{Arm}
+use Rattle.df_syntax.specs.declared.tree.Definition.{Definition}
+use Rattle.df_syntax.specs.declared.tree.Assign.{Assign}
+use Rattle.df_syntax.specs.declared.program.Parameter.{Parameter}
+use Rattle.df_syntax.specs.Grammar as g
+use Rattle.df_syntax.specs.Grammar.{Line, symbol, word, behind}
+use Rattle.df_syntax.specs.TokenClasses.{word_code}
+use Rattle.std.specs.Prelude.{ℕ, List, [], ◌∷◌}
+
+-- "," expr
+unfoldable pub next_expr : Line Expr
+next_expr = behind (symbol s.Comma) again
+
+-- ";" def
+unfoldable pub next_definition : Line Definition
+next_definition = behind (symbol s.Semicolon) g.definition
+
+-- "elseif" expr "then" expr
+unfoldable pub next_arm : Line Arm
+next_arm = behind (word r.ElseIf) g.arm
+
+-- ";" assign
+unfoldable pub next_assign : Line Assign
+next_assign = behind (symbol s.Semicolon) g.assign
+
+-- "," name
+unfoldable pub next_name : Line Named
+next_name = behind (symbol s.Comma) g.bound
+
+-- ";" group
+unfoldable pub next_group : Line (List Parameter)
+next_group = behind (symbol s.Semicolon) g.group
+
+-- "," type
+unfoldable pub next_type : Line Sort
+next_type = behind (symbol s.Comma) g.sort
+
+-- the first tokens of `let`, `if`, `forall` and `for`
+unfoldable pub blocks : List ℕ
+blocks = word_code r.Let ∷ word_code r.If ∷ word_code r.ForAll ∷ word_code r.For ∷ []
