@@ -1,5 +1,5 @@
 -- What the three cells of a program take, for given inputs, and what the program means.
-use Rattle.std.proofs.Common.{◌≡◌, ◌++◌, ◌∷◌, [], ◌+◌, ◌-◌, ℕ, ℤ, pos, suc, zero, List, length, map, get_or, refl, sym, ◌∙◌, ap, subst, arith, Some, None, false, is_some, append_assoc, append-nil}
+use Rattle.std.proofs.Common.{◌≡◌, ◌++◌, ◌∷◌, [], ◌+◌, ℕ, pos, suc, zero, List, length, map, get_or, refl, sym, ◌∙◌, ap, subst, arith, Some, None, false, is_some, append_assoc, append-nil}
 use Rattle.std.specs.Prelude.{slice_get, slice_index_or, ◌-ℤ◌}
 use Rattle.std.proofs.lemmas.Int.{ints}
 use Rattle.df_values.specs.declared.values.Value.TheVariants.{Error}

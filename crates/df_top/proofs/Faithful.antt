@@ -1,10 +1,10 @@
 -- The cells of a program are faithful to it.
-use Rattle.std.proofs.Common.{◌≡◌, ◌++◌, ◌∷◌, [], ◌+◌, ℕ, suc, zero, List, length, get_or, refl, sym, ◌∙◌, ap, arith, codes}
+use Rattle.std.proofs.Common.{◌≡◌, ◌++◌, ◌∷◌, [], ℕ, suc, zero, List, length, get_or, refl, sym, ◌∙◌, ap, arith, codes}
 use Rattle.df_values.specs.Inputs.{AreValid}
 use Rattle.df_values.specs.declared.values.Basic.TheVariants.{Integer}
 use Rattle.df_values.specs.declared.values.Value.{Value}
 use Rattle.df_machine.specs.Histories.{IsPrefix}
-use Rattle.df_machine.specs.Laws.{NeverClashes, ResultsFollowLabels, HasAllResults, CanRunThreeCells}
+use Rattle.df_machine.specs.Laws.{NeverClashes, ResultsFollowLabels, HasAllResults, AreThreeCellsWellFormed}
 use Rattle.df_machine.specs.Runs.{after}
 use Rattle.df_machine.specs.ThreeCells.{three_cells}
 use Rattle.df_top.specs.Laws.{AlwaysFaithful}
@@ -22,32 +22,32 @@ past_end [] k one = refl
 past_end (r ∷ []) k one = refl
 past_end (r ∷ (s ∷ results)) k one = absurd (omega arith)
 
-prefix_of_mean : (program : Program) (cells_run : ResultsFollowLabels) (can_run : CanRunThreeCells) (inputs : List (List Value)) (choices : List ℕ) → IsWithin program → AreValid (inputs_of program) inputs
+prefix_of_mean : (program : Program) (cells_run : ResultsFollowLabels) (formed : AreThreeCellsWellFormed) (inputs : List (List Value)) (choices : List ℕ) → IsWithin program → AreValid (inputs_of program) inputs
     → IsPrefix (get_or (after (three_cells (codes "A") program.elements program.addend) inputs choices).results 0 []) (construct program (get_or inputs 0 []))
-prefix_of_mean program cells_run can_run inputs choices within valid =
+prefix_of_mean program cells_run formed inputs choices within valid =
     let all = input_length program inputs valid in
     let few = within.few in
     let cells = three_cells (codes "A") program.elements program.addend in
-    let follows = cells_run cells inputs (labels program.addend (get_or inputs 0 [])) choices (can_run (codes "A") program.elements program.addend (omega arith))
+    let follows = cells_run cells inputs (labels program.addend (get_or inputs 0 [])) choices (formed (codes "A") program.elements program.addend (omega arith))
     (labels_meet (codes "A") program.elements program.addend inputs all) 2 1 program.elements refl in
     (follows.0, construct_sums program (get_or inputs 0 []) all ∙ sym (taken_at_end program.addend (get_or inputs 0 [])) ∙ follows.1)
 
-prefix_at : (program : Program) → ResultsFollowLabels → HasAllResults → CanRunThreeCells → (inputs : List (List Value)) (choices : List ℕ) (k : ℕ) → IsWithin program → AreValid (inputs_of program) inputs
+prefix_at : (program : Program) → ResultsFollowLabels → HasAllResults → AreThreeCellsWellFormed → (inputs : List (List Value)) (choices : List ℕ) (k : ℕ) → IsWithin program → AreValid (inputs_of program) inputs
     → IsPrefix (get_or (after (three_cells (codes "A") program.elements program.addend) inputs choices).results k []) (get_or (mean program inputs) k [])
 unfolding mean
-prefix_at program follow results can_run inputs choices zero within valid = prefix_of_mean program follow can_run inputs choices within valid
-prefix_at program follow results can_run inputs choices (suc k) within valid =
+prefix_at program follow results formed inputs choices zero within valid = prefix_of_mean program follow formed inputs choices within valid
+prefix_at program follow results formed inputs choices (suc k) within valid =
     let few = within.few in
-    let one = results (three_cells (codes "A") program.elements program.addend) inputs choices (can_run (codes "A") program.elements program.addend (omega arith)) in
+    let one = results (three_cells (codes "A") program.elements program.addend) inputs choices (formed (codes "A") program.elements program.addend (omega arith)) in
     ([], ap (λ l. l ++ []) (sym (past_end _ k one)))
 
-pub faithful : NeverClashes → ResultsFollowLabels → HasAllResults → CanRunThreeCells → AlwaysFaithful
+pub faithful : NeverClashes → ResultsFollowLabels → HasAllResults → AreThreeCellsWellFormed → AlwaysFaithful
 unfolding mean
-faithful clashes follow results can_run program within =
+faithful clashes follow results formed program within =
     let few = within.few in
-    let runs = can_run (codes "A") program.elements program.addend (omega arith) in
+    let runs = formed (codes "A") program.elements program.addend (omega arith) in
     record {
       no_clash = λ inputs choices choice valid. clashes (three_cells (codes "A") program.elements program.addend) inputs choices choice runs;
       results = λ inputs choices valid. results (three_cells (codes "A") program.elements program.addend) inputs choices runs;
-      prefixes = λ inputs choices k valid. prefix_at program follow results can_run inputs choices k within valid;
+      prefixes = λ inputs choices k valid. prefix_at program follow results formed inputs choices k within valid;
     }

@@ -1,44 +1,39 @@
 -- The verdict on texts that are judged one after another.
-use Rattle.std.proofs.Common.{List, ℕ, Ok, Err, refl}
-use Rattle.df_values.specs.declared.values.Value.{Value}
-use Rattle.df_values.specs.Streams.{StreamLists}
-use Rattle.df_top.specs.Inputs.{IsInput, ReadsInput}
-use Rattle.df_top.specs.Judged.{GivesMeaning, Finds}
-use Rattle.df_top.specs.Schedules.{IsSchedule, ReadsSchedule}
-use Rattle.df_top.specs.Sources.{IsSource, ReadsSource}
-use Rattle.df_top.specs.Verdicts.{Accepted, Run, JudgesTexts}
-use Rattle.df_top.specs.declared.program.Program.{Program}
-use Rattle.df_cells.specs.declared.schedules.Schedule.{Schedule}
+use Rattle.std.proofs.Common.{◌≡◌, List, ℕ, Result, Ok, Err, refl, sym, subst}
+use Rattle.df_top.specs.Judged.{GivesRead, texts_meant, GivesMeaning, StopsAs, Finds}
+use Rattle.df_top.specs.Verdicts.{Verdict, Absent, Refused, Texts, AfterRead, AfterText}
+use Rattle.df_top.specs.declared.judge.TextsRead.{TextsRead}
+use Rattle.df_top.specs.declared.plan.Task.{Task}
 use Rattle.df_top.specs.declared.stop.Stop.{Stop}
 use Rattle.df_top.specs.declared.stop.Stop.TheVariants as stop
 
--- a source that is refused decides
-pub refused_source : (source input schedule cells dual : List ℕ) (why : Stop) → GivesMeaning (λ (p : Program). p) (Err why) (ReadsSource source)
-    → Finds (JudgesTexts source input schedule cells dual) (Err why)
-refused_source source input schedule cells dual (stop.Refused line) reads = record { read = Err line; reads = reads; goes = refl }
-refused_source source input schedule cells dual stop.ReadFault reads = tt
-refused_source source input schedule cells dual stop.Memory reads = tt
+-- a text that is refused decides
+pub refused_first : {X Y : Type 0} (meant : X → Y) (Reads : Result Y (List ℕ) → Type 0) (next : Verdict → Y → Type 0) (why : Stop)
+    → GivesMeaning meant (Err why) Reads → StopsAs (λ v. AfterText Reads v (next v)) why
+refused_first meant Reads next (stop.Refused line) reads = record { read = Err line; reads = reads; goes = refl }
+refused_first meant Reads next stop.ReadFault reads = tt
+refused_first meant Reads next stop.Memory reads = tt
 
--- an input that is refused decides where the source was read
-pub refused_input : (source input schedule cells dual : List ℕ) (program : Program) (why : Stop) → IsSource source program
-    → GivesMeaning (λ (s : StreamLists). s.lists) (Err why) (ReadsInput program.elements input)
-    → Finds (JudgesTexts source input schedule cells dual) (Err why)
-refused_input source input schedule cells dual program (stop.Refused line) read reads =
-    record { read = Ok program; reads = read; goes = record { read = Err line; reads = reads; goes = refl } }
-refused_input source input schedule cells dual program stop.ReadFault read reads = tt
-refused_input source input schedule cells dual program stop.Memory read reads = tt
+-- where a text was read, why the ones behind it stop is why all do
+pub refused_behind : {Y : Type 0} (Reads : Result Y (List ℕ) → Type 0) (next : Verdict → Y → Type 0) (y : Y) (why : Stop)
+    → Reads (Ok y) → StopsAs (λ v. next v y) why → StopsAs (λ v. AfterText Reads v (next v)) why
+refused_behind Reads next y (stop.Refused line) read found = record { read = Ok y; reads = read; goes = found }
+refused_behind Reads next y stop.ReadFault read found = tt
+refused_behind Reads next y stop.Memory read found = tt
 
--- a schedule that is refused decides where the two before it were read
-pub refused_schedule : (source input schedule cells dual : List ℕ) (program : Program) (inputs : List (List Value)) (why : Stop) → IsSource source program
-    → IsInput program.elements input inputs → GivesMeaning (λ (s : Schedule). s) (Err why) (ReadsSchedule schedule)
-    → Finds (JudgesTexts source input schedule cells dual) (Err why)
-refused_schedule source input schedule cells dual program inputs (stop.Refused line) read second reads =
-    record { read = Ok program; reads = read; goes = record { read = Ok inputs; reads = second; goes = record { read = Err line; reads = reads; goes = refl } } }
-refused_schedule source input schedule cells dual program inputs stop.ReadFault read second reads = tt
-refused_schedule source input schedule cells dual program inputs stop.Memory read second reads = tt
+-- ---- the reads
 
--- the task is to be done where all were read
-pub all_read : (source input schedule cells dual : List ℕ) (program : Program) (inputs : List (List Value)) (choices : Schedule) → IsSource source program
-    → IsInput program.elements input inputs → IsSchedule schedule choices → JudgesTexts source input schedule cells dual (Accepted (Run program inputs choices cells dual))
-all_read source input schedule cells dual program inputs choices read second third =
-    record { read = Ok program; reads = read; goes = record { read = Ok inputs; reads = second; goes = record { read = Ok choices; reads = third; goes = refl } } }
+-- what isn't given decides
+pub barred : (read : Result Texts Verdict) (next : Verdict → Texts → Type 0) (why : Stop) → GivesRead texts_meant (Err why) read → StopsAs (λ v. AfterRead read v (next v)) why
+barred read next (stop.Refused line) is = subst (λ r. AfterRead r (Refused line) (next (Refused line))) (sym is) refl
+barred read next stop.ReadFault is = tt
+barred read next stop.Memory is = tt
+
+-- a file that isn't there leaves one verdict
+pub absent : (read : Result Texts Verdict) (next : Verdict → Texts → Type 0) → read ≡ Err Absent → AfterRead read Absent (next Absent)
+absent read next is = subst (λ r. AfterRead r Absent (next Absent)) (sym is) refl
+
+-- where the texts were read, what is found of them is found of the files
+pub found_in : (read : Result Texts Verdict) (next : Verdict → Texts → Type 0) (texts : TextsRead) (found : Result Task Stop) → read ≡ Ok (texts_meant texts)
+    → Finds (λ v. next v (texts_meant texts)) found → Finds (λ v. AfterRead read v (next v)) found
+found_in read next texts found is finds = subst (λ r. Finds (λ v. AfterRead r v (next v)) found) (sym is) finds

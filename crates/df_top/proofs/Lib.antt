@@ -1,14 +1,12 @@
 pub mod Scanning
 pub mod SourceTexts
-pub mod InputTexts
-pub mod ScheduleTexts
-pub mod DrainTexts
 pub mod Judging
+pub mod OwnNames
 pub mod Readings
 pub mod Outcomes
-pub mod CellLines
 pub mod Additions
 pub mod Faithful
 pub mod ReportLines
 pub mod RunReports
 pub mod ReadyTasks
+pub mod CellReadings

@@ -1,5 +1,5 @@
 -- What stands at each end of a call.
-use Rattle.std.proofs.Common.{ℕ, ◌≡◌, ◌⊎◌, ◌<◌, List, [], Bool, Result, Ok, Err, Option, Some, None, IsTrue, inl, inr, refl, sym, ◌∙◌, ap, subst, append-nil, arith}
+use Rattle.std.proofs.Common.{ℕ, ◌≡◌, ◌⊎◌, ◌<◌, List, Bool, Result, Ok, Err, Option, Some, None, IsTrue, inl, inr, refl, sym, ◌∙◌, ap, subst, append-nil, arith}
 use Rattle.df_io.specs.declared.files.Fault.{Fault}
 use Rattle.df_io.specs.declared.files.Fault.TheVariants as fault
 use Rattle.df_io.specs.Faults.{Rises, last_count}
@@ -13,7 +13,7 @@ use Rattle.df_top.specs.Orders.{Order}
 use Rattle.df_top.specs.Verdicts.{Verdict, Absent, Refused, Accepted, Task, Judges}
 use Rattle.df_top.specs.declared.status.Status.{Status}
 use Rattle.df_top.specs.declared.status.Status.TheVariants as status
-use Rattle.df_top.proofs.Readings.{one_verdict}
+use Rattle.df_top.specs.Laws.{HasOneVerdict}
 
 -- ---- a command that was accepted, or refused, or read no further
 
@@ -26,10 +26,10 @@ stands_for_task task effect status.Usage Told old new may stands = absurd stands
 stands_for_task task effect status.Refused Told old new may stands = absurd stands
 stands_for_task task effect status.ReadFault Told old new may stands = absurd stands
 
-pub stands_when_carried : (order : Order) (task : Task) (effect : Effect) (ending : Status) (Told : Type 0) (before mid after : Holds) (written last : List ℕ) → mid ≡ before → Judges order before (Accepted task) → MayDo task effect
+pub stands_when_carried : HasOneVerdict → (order : Order) (task : Task) (effect : Effect) (ending : Status) (Told : Type 0) (before mid after : Holds) (written last : List ℕ) → mid ≡ before → Judges order before (Accepted task) → MayDo task effect
     → StandsFor effect ending Told (record { holds = mid; written = written }) (record { holds = after; written = last })
     → (v : Verdict) → Judges order before v → Stands v ending Told (record { holds = before; written = written }) (record { holds = after; written = last })
-stands_when_carried order task effect ending Told before mid after written last same judged may stands v judges =
+stands_when_carried one_verdict order task effect ending Told before mid after written last same judged may stands v judges =
     let start : World → Type 0 = λ old. StandsFor effect ending Told old (record { holds = after; written = last }) in
     let moved = subst start (ap (λ h. record { holds = h; written = written }) same) stands in
     subst (λ w. Stands w ending Told (record { holds = before; written = written }) (record { holds = after; written = last }))
@@ -41,9 +41,9 @@ stands_at_refusal line (Ok done) Told old new same gains = (same, λ told. (gain
 stands_at_refusal line (Err fault.Failed) Told old new same gains = (same, λ told. (gains told).front)
 stands_at_refusal line (Err fault.Memory) Told old new same gains = (same, λ told. (gains told).front)
 
-pub stands_when_refused : (order : Order) (line : List ℕ) (r : Result Unit Fault) (ending : Status) (Told : Type 0) (old new : World) → ending ≡ ended r status.Refused → new.holds ≡ old.holds → Judges order old.holds (Refused line)
+pub stands_when_refused : HasOneVerdict → (order : Order) (line : List ℕ) (r : Result Unit Fault) (ending : Status) (Told : Type 0) (old new : World) → ending ≡ ended r status.Refused → new.holds ≡ old.holds → Judges order old.holds (Refused line)
     → (Told → GainsAll line old.written new.written r) → (v : Verdict) → Judges order old.holds v → Stands v ending Told old new
-stands_when_refused order line r ending Told old new is same judged gains v judges =
+stands_when_refused one_verdict order line r ending Told old new is same judged gains v judges =
     subst (λ w. Stands w ending Told old new) (one_verdict order old.holds (Refused line) v judged judges)
     (subst (λ s. Stands (Refused line) s Told old new) (sym is) (stands_at_refusal line r Told old new same gains))
 
@@ -95,10 +95,10 @@ answers_usage status.Stopped Told old new stands write = absurd stands
 answers_usage status.Refused Told old new stands write = absurd stands
 answers_usage status.ReadFault Told old new stands write = absurd stands
 
-pub completes : {R W O : Type 0} {tells : Bool} (words : Option Order) (ending : Status) (Told : Type 0) (old new : World) → Ends words ending Told old new
+pub completes : {R W O : Type 0} {tells : Bool} → HasOneVerdict → (words : Option Order) (ending : Status) (Told : Type 0) (old new : World) → Ends words ending Told old new
     → (ending ≡ status.ReadFault → R ⊎ (IsTrue tells × IsAbsent words old.holds)) → (ending ≡ status.WriteFault → W ⊎ O) → ¬ R → ¬ W → ¬ O → Completes words old.holds ending
-completes None ending Told old new ends read write r w o = answers_usage ending Told old new ends (λ e. neither w o (write e))
-completes (Some order) ending Told old new ends read write r w o = λ v judges.
+completes one_verdict None ending Told old new ends read write r w o = answers_usage ending Told old new ends (λ e. neither w o (write e))
+completes one_verdict (Some order) ending Told old new ends read write r w o = λ v judges.
     answers v ending Told old new (ends v judges) (λ e. one_verdict order old.holds v Absent judges (no_read_fault r (read e)).1) (λ e. neither w o (write e))
 
 -- a count that stays below its end doesn't rise

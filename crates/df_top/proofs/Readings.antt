@@ -1,18 +1,27 @@
 -- A text has one reading, and a command one verdict.
-use Rattle.std.proofs.Common.{◌≡◌, List, ℕ, Result, Ok, Err, refl, sym, ◌∙◌, ap, subst, codes}
-use Rattle.df_io.specs.Told.{Holds}
+use Rattle.std.proofs.Common.{◌≡◌, List, ℕ, Result, Ok, Err, ◌++◌, refl, sym, ◌∙◌, ap, subst, codes}
+use Rattle.std.specs.Fmt.{decimal}
 use Rattle.df_values.specs.declared.values.Value.{Value}
-use Rattle.df_top.specs.Inputs.{ReadsInput}
-use Rattle.df_top.specs.Lines.{refusal}
-use Rattle.df_top.specs.Orders.{Order, Go}
-use Rattle.df_top.specs.Schedules.{ReadsSchedule}
-use Rattle.df_top.specs.Sources.{ReadsSource}
-use Rattle.df_top.specs.Verdicts.{Verdict, Refused, Accepted, Run, AfterText, AfterRead, Goes, JudgesTexts, Judges, text_at, source_limit, text_limit}
-use Rattle.df_top.specs.declared.program.Program.{Program}
+use Rattle.df_cells.specs.declared.cells.Cell.{Cell}
+use Rattle.df_cells.specs.declared.cells.InputDecl.{InputDecl}
 use Rattle.df_cells.specs.declared.schedules.Schedule.{Schedule}
-use Rattle.df_top.proofs.DrainTexts.{one_schedule}
-use Rattle.df_top.proofs.InputTexts.{one_input}
+use Rattle.df_cells.specs.Cells.{inputs_of}
+use Rattle.df_iotext.specs.Inputs.{ReadsInputs, HaveOwnNames}
+use Rattle.df_iotext.specs.Schedules.{ReadsSchedule}
+use Rattle.df_iotext.specs.Laws.{InputsHaveOneReading, InputsHaveReadings, SchedulesHaveOneReading, SchedulesHaveReadings}
+use Rattle.df_iotext.specs.declared.inputs.InputAnswer.{InputAnswer}
+use Rattle.df_top.specs.Laws.{CellFilesHaveOneReading, CellFilesHaveReadings, HasOneVerdict, HasSomeVerdict}
+use Rattle.df_top.specs.Lines.{refusal}
+use Rattle.df_top.specs.Meanings.{decls_of}
+use Rattle.df_top.specs.Orders.{Go, Run}
+use Rattle.df_top.specs.Sources.{ReadsSource}
+use Rattle.df_top.specs.Texts.{input_reason, and_word, ReadsInputText, ReadsScheduleText, ReadsCellFile}
+use Rattle.df_top.specs.Verdicts.{Verdict, Refused, Accepted, Task, CompileAndRun, RunCells, Texts, AfterText, AfterRead, Goes, JudgesRun, JudgesGo, JudgesCells, texts_at, source_limit, cells_limit}
+use Rattle.df_top.specs.declared.program.Program.{Program}
+use Rattle.df_top.proofs.OwnNames.{cells_names, one_name}
 use Rattle.df_top.proofs.SourceTexts.{one_source}
+
+-- ---- one reading
 
 one_source_reading : (text : List ℕ) (r s : Result Program (List ℕ)) → ReadsSource text r → ReadsSource text s → r ≡ s
 one_source_reading text (Ok p) (Ok q) a b = ap Ok (one_source text p q a b)
@@ -20,108 +29,144 @@ one_source_reading text (Ok p) (Err line) a b = absurd (b.1 p a)
 one_source_reading text (Err line) (Ok q) a b = absurd (a.1 q b)
 one_source_reading text (Err line) (Err other) a b = ap Err (a.0 ∙ sym b.0)
 
-one_input_reading : (elements : ℕ) (text : List ℕ) (r s : Result (List (List Value)) (List ℕ)) → ReadsInput elements text r → ReadsInput elements text s → r ≡ s
-one_input_reading elements text (Ok p) (Ok q) a b = ap Ok (one_input elements text p q a b)
-one_input_reading elements text (Ok p) (Err line) a b = absurd (b.1 p a)
-one_input_reading elements text (Err line) (Ok q) a b = absurd (a.1 q b)
-one_input_reading elements text (Err line) (Err other) a b = ap Err (a.0 ∙ sym b.0)
+module _ {A B : Type 0} where
+  same_found : (p q : A) → (let r : Result A B = Ok p in r) ≡ Ok q → p ≡ q
+  same_found p q e = cc
 
-one_schedule_reading : (text : List ℕ) (r s : Result Schedule (List ℕ)) → ReadsSchedule text r → ReadsSchedule text s → r ≡ s
-one_schedule_reading text (Ok p) (Ok q) a b = ap Ok (one_schedule text p q a b)
-one_schedule_reading text (Ok p) (Err line) a b = absurd (b.1 p a)
-one_schedule_reading text (Err line) (Ok q) a b = absurd (a.1 q b)
-one_schedule_reading text (Err line) (Err other) a b = ap Err (a.0 ∙ sym b.0)
+  same_why : (x y : B) → (let r : Result A B = Err x in r) ≡ Err y → x ≡ y
+  same_why x y e = cc
+
+  not_both : (p : A) (x : B) → (let r : Result A B = Ok p in r) ≡ Err x → ⊥
+  not_both p x e = cc
+
+one_input_reading : InputsHaveOneReading → (decls : List InputDecl) → HaveOwnNames decls → (text : List ℕ) (r s : Result (List (List Value)) (List ℕ))
+    → ReadsInputText decls text r → ReadsInputText decls text s → r ≡ s
+one_input_reading one decls names text (Ok p) (Ok q) a b = ap Ok (same_found p q (one text decls (Ok p) (Ok q) names a b))
+one_input_reading one decls names text (Ok p) (Err line) a (answer, says, b) = absurd (not_both p answer (one text decls (Ok p) (Err answer) names a b))
+one_input_reading one decls names text (Err line) (Ok q) (answer, says, a) b = absurd (not_both q answer (one text decls (Ok q) (Err answer) names b a))
+one_input_reading one decls names text (Err line) (Err other) (x, says, a) (y, tells, b) =
+    ap Err (says ∙ ap (λ answer. refusal (input_reason answer)) (same_why x y (one text decls (Err x) (Err y) names a b)) ∙ sym tells)
+
+abbrev bad_schedule : ℕ → List ℕ
+bad_schedule word = refusal (codes "BadSchedule" ++ and_word (decimal word))
+
+one_schedule_reading : SchedulesHaveOneReading → (text : List ℕ) (r s : Result Schedule (List ℕ)) → ReadsScheduleText text r → ReadsScheduleText text s → r ≡ s
+one_schedule_reading one text (Ok p) (Ok q) a b = ap Ok (same_found p q (one text (Ok p) (Ok q) a b))
+one_schedule_reading one text (Ok p) (Err line) a (word, says, b) = absurd (not_both p word (one text (Ok p) (Err word) a b))
+one_schedule_reading one text (Err line) (Ok q) (word, says, a) b = absurd (not_both q word (one text (Ok q) (Err word) b a))
+one_schedule_reading one text (Err line) (Err other) (x, says, a) (y, tells, b) =
+    ap Err (says ∙ ap bad_schedule (same_why x y (one text (Err x) (Err y) a b)) ∙ sym tells)
+
+-- ---- one verdict
 
 -- a text with one reading leaves one verdict, where what follows does
-one_after_goes : {A : Type 0} (read : Result A (List ℕ)) (v w : Verdict) (next : Verdict → A → Type 0) → ((a : A) → next v a → next w a → v ≡ w) → Goes read v (next v) → Goes read w (next w) → v ≡ w
-one_after_goes (Ok a) v w next one p q = one a p q
-one_after_goes (Err line) v w next one p q = p ∙ sym q
+one_after_goes : {A : Type 0} (Reads : Result A (List ℕ) → Type 0) (read : Result A (List ℕ)) (v w : Verdict) (next : Verdict → A → Type 0)
+    → ((a : A) → Reads (Ok a) → next v a → next w a → v ≡ w) → Reads read → Goes read v (next v) → Goes read w (next w) → v ≡ w
+one_after_goes Reads (Ok a) v w next one reads p q = one a reads p q
+one_after_goes Reads (Err line) v w next one reads p q = p ∙ sym q
 
 one_after_text : {A : Type 0} (Reads : Result A (List ℕ) → Type 0) (v w : Verdict) (next : Verdict → A → Type 0)
-    → ((r s : Result A (List ℕ)) → Reads r → Reads s → r ≡ s) → ((a : A) → next v a → next w a → v ≡ w) → AfterText Reads v (next v) → AfterText Reads w (next w) → v ≡ w
+    → ((r s : Result A (List ℕ)) → Reads r → Reads s → r ≡ s) → ((a : A) → Reads (Ok a) → next v a → next w a → v ≡ w)
+    → AfterText Reads v (next v) → AfterText Reads w (next w) → v ≡ w
 one_after_text Reads v w next same one p q =
-    one_after_goes p.read v w next one p.goes (subst (λ r. Goes r w (next w)) (sym (same p.read q.read p.reads q.reads)) q.goes)
+    one_after_goes Reads p.read v w next one p.reads p.goes (subst (λ r. Goes r w (next w)) (sym (same p.read q.read p.reads q.reads)) q.goes)
 
-one_after_read : (read : Result (List ℕ) Verdict) (v w : Verdict) (next : Verdict → List ℕ → Type 0) → ((text : List ℕ) → next v text → next w text → v ≡ w)
+one_after_read : (read : Result Texts Verdict) (v w : Verdict) (next : Verdict → Texts → Type 0) → ((texts : Texts) → next v texts → next w texts → v ≡ w)
     → AfterRead read v (next v) → AfterRead read w (next w) → v ≡ w
-one_after_read (Ok text) v w next one p q = one text p q
+one_after_read (Ok texts) v w next one p q = one texts p q
 one_after_read (Err barred) v w next one p q = p ∙ sym q
 
--- what is asked of a text once those before it were read
-abbrev last_asked : (cells dual : List ℕ) → Program → List (List Value) → Verdict → Schedule → Type 0
-last_asked cells dual program inputs v choices = v ≡ Accepted (Run program inputs choices cells dual)
+-- what is asked once the inputs, and once the schedule were read
+abbrev last_asked : (List (List Value) → Schedule → Task) → List (List Value) → Verdict → Schedule → Type 0
+last_asked task inputs v choices = v ≡ Accepted (task inputs choices)
 
-abbrev schedule_asked : (schedule cells dual : List ℕ) → Program → Verdict → List (List Value) → Type 0
-schedule_asked schedule cells dual program v inputs = AfterText (ReadsSchedule schedule) v (last_asked cells dual program inputs v)
+abbrev schedule_asked : List ℕ → (List (List Value) → Schedule → Task) → Verdict → List (List Value) → Type 0
+schedule_asked schedule task v inputs = AfterText (ReadsScheduleText schedule) v (last_asked task inputs v)
 
-abbrev input_asked : (input schedule cells dual : List ℕ) → Verdict → Program → Type 0
-input_asked input schedule cells dual v program = AfterText (ReadsInput program.elements input) v (schedule_asked schedule cells dual program v)
+one_last : (task : List (List Value) → Schedule → Task) (inputs : List (List Value)) (v w : Verdict) (choices : Schedule) → last_asked task inputs v choices → last_asked task inputs w choices → v ≡ w
+one_last task inputs v w choices p q = p ∙ sym q
 
-one_last : (cells dual : List ℕ) (program : Program) (inputs : List (List Value)) (v w : Verdict) (choices : Schedule) → last_asked cells dual program inputs v choices → last_asked cells dual program inputs w choices → v ≡ w
-one_last cells dual program inputs v w choices p q = p ∙ sym q
+one_run : InputsHaveOneReading → SchedulesHaveOneReading → (decls : List InputDecl) → HaveOwnNames decls → (input schedule : List ℕ) (task : List (List Value) → Schedule → Task) (v w : Verdict)
+    → JudgesRun decls input schedule task v → JudgesRun decls input schedule task w → v ≡ w
+one_run one_input one_schedule decls names input schedule task v w =
+    one_after_text (ReadsInputText decls input) v w (schedule_asked schedule task) (one_input_reading one_input decls names input)
+    (λ inputs read. one_after_text (ReadsScheduleText schedule) v w (last_asked task inputs) (one_schedule_reading one_schedule schedule)
+    (λ choices chosen. one_last task inputs v w choices))
 
-one_schedule_asked : (schedule cells dual : List ℕ) (program : Program) (v w : Verdict) (inputs : List (List Value)) → schedule_asked schedule cells dual program v inputs → schedule_asked schedule cells dual program w inputs → v ≡ w
-one_schedule_asked schedule cells dual program v w inputs =
-    one_after_text (ReadsSchedule schedule) v w (last_asked cells dual program inputs) (one_schedule_reading schedule) (one_last cells dual program inputs v w)
+-- what is asked once the source, and once the cells were read
+abbrev program_asked : (input schedule cells dual : List ℕ) → Verdict → Program → Type 0
+program_asked input schedule cells dual v program = JudgesRun (decls_of program) input schedule (λ inputs choices. CompileAndRun program inputs choices cells dual) v
 
-one_input_asked : (input schedule cells dual : List ℕ) (v w : Verdict) (program : Program) → input_asked input schedule cells dual v program → input_asked input schedule cells dual w program → v ≡ w
-one_input_asked input schedule cells dual v w program =
-    one_after_text (ReadsInput program.elements input) v w (schedule_asked schedule cells dual program) (one_input_reading program.elements input) (one_schedule_asked schedule cells dual program v w)
+abbrev cells_asked : (input schedule : List ℕ) → Verdict → List Cell → Type 0
+cells_asked input schedule v cells = JudgesRun (inputs_of cells) input schedule (λ inputs choices. RunCells cells inputs choices) v
 
-one_verdict_on_texts : (source input schedule cells dual : List ℕ) (v w : Verdict) → JudgesTexts source input schedule cells dual v → JudgesTexts source input schedule cells dual w → v ≡ w
-one_verdict_on_texts source input schedule cells dual v w =
-    one_after_text (ReadsSource source) v w (input_asked input schedule cells dual) (one_source_reading source) (one_input_asked input schedule cells dual v w)
+one_go : InputsHaveOneReading → SchedulesHaveOneReading → (source input schedule cells dual : List ℕ) (v w : Verdict)
+    → JudgesGo source input schedule cells dual v → JudgesGo source input schedule cells dual w → v ≡ w
+one_go one_input one_schedule source input schedule cells dual v w =
+    one_after_text (ReadsSource source) v w (program_asked input schedule cells dual) (one_source_reading source)
+    (λ program read. one_run one_input one_schedule (decls_of program) (one_name _) input schedule (λ inputs choices. CompileAndRun program inputs choices cells dual) v w)
 
-abbrev texts_asked : (cells dual source input : List ℕ) → Verdict → List ℕ → Type 0
-texts_asked cells dual source input v schedule = JudgesTexts source input schedule cells dual v
+one_file : InputsHaveOneReading → SchedulesHaveOneReading → CellFilesHaveOneReading → (cells input schedule : List ℕ) (v w : Verdict)
+    → JudgesCells cells input schedule v → JudgesCells cells input schedule w → v ≡ w
+one_file one_input one_schedule one_cells cells input schedule v w =
+    one_after_text (ReadsCellFile cells) v w (cells_asked input schedule) (one_cells cells)
+    (λ list read. one_run one_input one_schedule (inputs_of list) (cells_names list read.1) input schedule (λ inputs choices. RunCells list inputs choices) v w)
 
-abbrev schedule_read : Holds → (schedule cells dual source : List ℕ) → Verdict → List ℕ → Type 0
-schedule_read holds schedule cells dual source v input = AfterRead (text_at holds schedule text_limit (codes "schedule")) v (texts_asked cells dual source input v)
-
-abbrev input_read : Holds → (input schedule cells dual : List ℕ) → Verdict → List ℕ → Type 0
-input_read holds input schedule cells dual v source = AfterRead (text_at holds input text_limit (codes "input")) v (schedule_read holds schedule cells dual source v)
-
-pub one_verdict : (order : Order) (holds : Holds) (v w : Verdict) → Judges order holds v → Judges order holds w → v ≡ w
-one_verdict (Go source input schedule cells dual) holds v w =
-    one_after_read (text_at holds source source_limit (codes "source")) v w (input_read holds input schedule cells dual)
-    (λ s. one_after_read (text_at holds input text_limit (codes "input")) v w (schedule_read holds schedule cells dual s)
-    (λ i. one_after_read (text_at holds schedule text_limit (codes "schedule")) v w (texts_asked cells dual s i)
-    (λ c. one_verdict_on_texts s i c cells dual v w)))
+pub one_verdict : InputsHaveOneReading → SchedulesHaveOneReading → CellFilesHaveOneReading → HasOneVerdict
+one_verdict one_input one_schedule one_cells (Go source input schedule cells dual) holds v w =
+    one_after_read (texts_at holds source source_limit (codes "source") input schedule) v w (λ u texts. JudgesGo texts.first texts.input texts.schedule cells dual u)
+    (λ texts. one_go one_input one_schedule texts.first texts.input texts.schedule cells dual v w)
+one_verdict one_input one_schedule one_cells (Run cells input schedule) holds v w =
+    one_after_read (texts_at holds cells cells_limit (codes "cells") input schedule) v w (λ u texts. JudgesCells texts.first texts.input texts.schedule u)
+    (λ texts. one_file one_input one_schedule one_cells texts.first texts.input texts.schedule v w)
 
 -- ---- there is a verdict
 
 some_source_reading : (text : List ℕ) → ¬ ((r : Result Program (List ℕ)) → ¬ ReadsSource text r)
 some_source_reading text none = none (Err (refusal (codes "NotBuilt source"))) (refl, λ program source. none (Ok program) source)
 
-some_input_reading : (elements : ℕ) (text : List ℕ) → ¬ ((r : Result (List (List Value)) (List ℕ)) → ¬ ReadsInput elements text r)
-some_input_reading elements text none = none (Err (refusal (codes "NotBuilt input"))) (refl, λ inputs input. none (Ok inputs) input)
+input_text_reading : (decls : List InputDecl) (text : List ℕ) (r : Result (List (List Value)) InputAnswer) → ReadsInputs text decls r
+    → ((s : Result (List (List Value)) (List ℕ)) → ¬ ReadsInputText decls text s) → ⊥
+input_text_reading decls text (Ok lists) read none = none (Ok lists) read
+input_text_reading decls text (Err answer) read none = none (Err (refusal (input_reason answer))) (answer, refl, read)
 
-some_schedule_reading : (text : List ℕ) → ¬ ((r : Result Schedule (List ℕ)) → ¬ ReadsSchedule text r)
-some_schedule_reading text none = none (Err (refusal (codes "NotBuilt schedule"))) (refl, λ schedule s. none (Ok schedule) s)
+some_input_reading : InputsHaveReadings → (decls : List InputDecl) (text : List ℕ) → ¬ ((r : Result (List (List Value)) (List ℕ)) → ¬ ReadsInputText decls text r)
+some_input_reading some decls text none = some text decls (λ r read. input_text_reading decls text r read none)
 
-some_after_goes : {A : Type 0} (read : Result A (List ℕ)) (next : Verdict → A → Type 0) → ((a : A) → ¬ ((v : Verdict) → ¬ next v a)) → ¬ ((v : Verdict) → ¬ Goes read v (next v))
-some_after_goes (Ok a) next some none = some a none
-some_after_goes (Err line) next some none = none (Refused line) refl
+schedule_text_reading : (text : List ℕ) (r : Result Schedule ℕ) → ReadsSchedule text r → ((s : Result Schedule (List ℕ)) → ¬ ReadsScheduleText text s) → ⊥
+schedule_text_reading text (Ok schedule) read none = none (Ok schedule) read
+schedule_text_reading text (Err word) read none = none (Err (bad_schedule word)) (word, refl, read)
 
-some_after_text : {A : Type 0} (Reads : Result A (List ℕ) → Type 0) (next : Verdict → A → Type 0) → ¬ ((r : Result A (List ℕ)) → ¬ Reads r) → ((a : A) → ¬ ((v : Verdict) → ¬ next v a))
+some_schedule_reading : SchedulesHaveReadings → (text : List ℕ) → ¬ ((r : Result Schedule (List ℕ)) → ¬ ReadsScheduleText text r)
+some_schedule_reading some text none = let found = some text in schedule_text_reading text found.0 found.1 none
+
+some_after_goes : {A : Type 0} (Reads : Result A (List ℕ) → Type 0) (read : Result A (List ℕ)) (next : Verdict → A → Type 0) → ((a : A) → Reads (Ok a) → ¬ ((v : Verdict) → ¬ next v a))
+    → Reads read → ¬ ((v : Verdict) → ¬ Goes read v (next v))
+some_after_goes Reads (Ok a) next some reads none = some a reads none
+some_after_goes Reads (Err line) next some reads none = none (Refused line) refl
+
+some_after_text : {A : Type 0} (Reads : Result A (List ℕ) → Type 0) (next : Verdict → A → Type 0) → ¬ ((r : Result A (List ℕ)) → ¬ Reads r) → ((a : A) → Reads (Ok a) → ¬ ((v : Verdict) → ¬ next v a))
     → ¬ ((v : Verdict) → ¬ AfterText Reads v (next v))
 some_after_text Reads next reads some none =
-    reads (λ r read. some_after_goes r next some (λ v goes. none v (record { read = r; reads = read; goes = goes })))
+    reads (λ r read. some_after_goes Reads r next some read (λ v goes. none v (record { read = r; reads = read; goes = goes })))
 
-some_after_read : (read : Result (List ℕ) Verdict) (next : Verdict → List ℕ → Type 0) → ((text : List ℕ) → ¬ ((v : Verdict) → ¬ next v text)) → ¬ ((v : Verdict) → ¬ AfterRead read v (next v))
-some_after_read (Ok text) next some none = some text none
+some_after_read : (read : Result Texts Verdict) (next : Verdict → Texts → Type 0) → ((texts : Texts) → ¬ ((v : Verdict) → ¬ next v texts)) → ¬ ((v : Verdict) → ¬ AfterRead read v (next v))
+some_after_read (Ok texts) next some none = some texts none
 some_after_read (Err barred) next some none = none barred refl
 
-some_verdict_on_texts : (source input schedule cells dual : List ℕ) → ¬ ((v : Verdict) → ¬ JudgesTexts source input schedule cells dual v)
-some_verdict_on_texts source input schedule cells dual =
-    some_after_text (ReadsSource source) (input_asked input schedule cells dual) (some_source_reading source)
-    (λ program. some_after_text (ReadsInput program.elements input) (schedule_asked schedule cells dual program) (some_input_reading program.elements input)
-    (λ inputs. some_after_text (ReadsSchedule schedule) (last_asked cells dual program inputs) (some_schedule_reading schedule)
-    (λ choices none. none (Accepted (Run program inputs choices cells dual)) refl)))
+some_run : InputsHaveReadings → SchedulesHaveReadings → (decls : List InputDecl) (input schedule : List ℕ) (task : List (List Value) → Schedule → Task)
+    → ¬ ((v : Verdict) → ¬ JudgesRun decls input schedule task v)
+some_run some_input some_schedule decls input schedule task =
+    some_after_text (ReadsInputText decls input) (schedule_asked schedule task) (some_input_reading some_input decls input)
+    (λ inputs read. some_after_text (ReadsScheduleText schedule) (last_asked task inputs) (some_schedule_reading some_schedule schedule)
+    (λ choices chosen none. none (Accepted (task inputs choices)) refl))
 
-pub some_verdict : (order : Order) (holds : Holds) → ¬ ((v : Verdict) → ¬ Judges order holds v)
-some_verdict (Go source input schedule cells dual) holds =
-    some_after_read (text_at holds source source_limit (codes "source")) (input_read holds input schedule cells dual)
-    (λ s. some_after_read (text_at holds input text_limit (codes "input")) (schedule_read holds schedule cells dual s)
-    (λ i. some_after_read (text_at holds schedule text_limit (codes "schedule")) (texts_asked cells dual s i)
-    (λ c. some_verdict_on_texts s i c cells dual)))
+pub some_verdict : InputsHaveReadings → SchedulesHaveReadings → CellFilesHaveReadings → HasSomeVerdict
+some_verdict some_input some_schedule some_cells (Go source input schedule cells dual) holds =
+    some_after_read (texts_at holds source source_limit (codes "source") input schedule) (λ u texts. JudgesGo texts.first texts.input texts.schedule cells dual u)
+    (λ texts. some_after_text (ReadsSource texts.first) (program_asked texts.input texts.schedule cells dual) (some_source_reading texts.first)
+    (λ program read. some_run some_input some_schedule (decls_of program) texts.input texts.schedule (λ inputs choices. CompileAndRun program inputs choices cells dual)))
+some_verdict some_input some_schedule some_cells (Run cells input schedule) holds =
+    some_after_read (texts_at holds cells cells_limit (codes "cells") input schedule) (λ u texts. JudgesCells texts.first texts.input texts.schedule u)
+    (λ texts. some_after_text (ReadsCellFile texts.first) (cells_asked texts.input texts.schedule) (some_cells texts.first)
+    (λ list read. some_run some_input some_schedule (inputs_of list) texts.input texts.schedule (λ inputs choices. RunCells list inputs choices)))

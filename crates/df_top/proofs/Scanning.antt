@@ -1,14 +1,12 @@
 -- What was taken from the front of a text.
-use Rattle.std.proofs.Common.{◌≡◌, ◌++◌, ◌∷◌, [], ◌<◌, ◌^◌, ℕ, List, true, false, nat_eq, length, take, drop, sym, ◌∙◌, ap, subst, ℤ}
+use Rattle.std.proofs.Common.{◌≡◌, ◌++◌, ◌<◌, ◌^◌, ℕ, List, true, false, nat_eq, length, take, drop, sym, ◌∙◌, ap, subst}
 use Rattle.std.specs.Cmp.Lexicographic.{same_text, other_text}
 use Rattle.std.proofs.lemmas.List.{take-append-drop}
 use Rattle.std.proofs.Math.Seq.{take-append_seam, drop-append_seam}
 use lib.Pointwise.{pointwise}
-use Rattle.df_values.specs.Values.{IsOrdinary}
-use Rattle.df_values.specs.Decimals.{LeadsWith, LeadsWithInteger}
-use Rattle.df_values.proofs.Limits.{small_from_ordinary}
-use Rattle.df_values.proofs.DecimalLemmas.{one_number, one_integer}
-use Rattle.df_top.specs.Scanned.{LeadsAfter, LeadsAfterInteger, EndsAfter}
+use Rattle.df_values.specs.Decimals.{LeadsWith}
+use Rattle.df_values.proofs.DecimalLemmas.{one_number}
+use Rattle.df_top.specs.Scanned.{LeadsAfter, EndsAfter}
 use Rattle.df_top.specs.Lines.{IsEnd}
 
 pub piece_taken : (piece text : List ℕ) → pointwise nat_eq (take (length piece) text) piece ≡ true → text ≡ piece ++ drop (length piece) text
@@ -30,25 +28,13 @@ one_after piece text m n rest others p q a b =
     let same : b.behind ≡ a.behind = same_rest piece b.behind a.behind (sym b.parts ∙ a.parts) in
     one_number a.behind rest others m n p q a.number (subst (λ t. LeadsWith t n others) same b.number)
 
-pub one_integer_after : (piece text : List ℕ) (y z : ℤ) (rest others : List ℕ) → IsOrdinary y → IsOrdinary z → LeadsAfterInteger piece text y rest → LeadsAfterInteger piece text z others → (y ≡ z) × (rest ≡ others)
-one_integer_after piece text y z rest others p q a b =
-    let same : b.behind ≡ a.behind = same_rest piece b.behind a.behind (sym b.parts ∙ a.parts) in
-    one_integer a.behind y z rest others (small_from_ordinary y p) (small_from_ordinary z q) a.integer (subst (λ t. LeadsWithInteger t z others) same b.integer)
-
 -- the number behind a piece isn't there where the piece or the number isn't
 pub none_without_piece : (piece text : List ℕ) → ((rest : List ℕ) → ¬ (text ≡ piece ++ rest)) → (n : ℕ) (rest : List ℕ) → ¬ LeadsAfter piece text n rest
 none_without_piece piece text none n rest a = none a.behind a.parts
 
-pub none_without_integer : (piece text : List ℕ) → ((rest : List ℕ) → ¬ (text ≡ piece ++ rest)) → (z : ℤ) (rest : List ℕ) → ¬ LeadsAfterInteger piece text z rest
-none_without_integer piece text none z rest a = none a.behind a.parts
-
 pub none_behind : (piece text behind : List ℕ) (n : ℕ) (rest : List ℕ) → text ≡ piece ++ behind → (¬ LeadsWith behind n rest) → ¬ LeadsAfter piece text n rest
 none_behind piece text behind n rest parts none a =
     none (subst (λ t. LeadsWith t n rest) (same_rest piece a.behind behind (sym a.parts ∙ parts)) a.number)
-
-pub none_behind_integer : (piece text behind : List ℕ) (z : ℤ) (rest : List ℕ) → text ≡ piece ++ behind → (¬ LeadsWithInteger behind z rest) → ¬ LeadsAfterInteger piece text z rest
-none_behind_integer piece text behind z rest parts none a =
-    none (subst (λ t. LeadsWithInteger t z rest) (same_rest piece a.behind behind (sym a.parts ∙ parts)) a.integer)
 
 pub none_ends_without_piece : (piece text : List ℕ) → ((rest : List ℕ) → ¬ (text ≡ piece ++ rest)) → ¬ EndsAfter piece text
 none_ends_without_piece piece text none e = none e.end e.parts

@@ -1,5 +1,5 @@
 -- Why a call ends as it does: the counts of faults, and the answers where none rises.
-use Rattle.std.specs.Prelude.{ℕ, ◌≡◌, ◌⊎◌, Option, Some, None}
+use Rattle.std.specs.Prelude.{◌≡◌, ◌⊎◌, Option, Some, None}
 use Rattle.df_io.specs.Told.{Holds}
 use Rattle.df_io.specs.Faults.{Faults, SinkFaults, Counts, Rises}
 use Rattle.df_top.specs.Orders.{Order}

@@ -3,10 +3,12 @@ use Rattle.std.specs.Prelude.{◌≡◌, ℕ, List, [], ◌∷◌, length, get_o
 use Rattle.df_values.specs.declared.values.Value.{Value}
 use Rattle.df_values.specs.Inputs.{AreValid}
 use Rattle.df_cells.specs.declared.cells.Cell.{Cell}
-use Rattle.df_machine.specs.CellText.{cell_text}
+use Rattle.df_cells.specs.declared.schedules.Schedule.{Schedule}
+use Rattle.df_cells.specs.WellFormed.{WellFormed}
+use Rattle.df_celltext.specs.CellText.{cell_text}
 use Rattle.df_machine.specs.Events.{chosen_event}
 use Rattle.df_machine.specs.Histories.{IsPrefix}
-use Rattle.df_machine.specs.Reports.{report}
+use Rattle.df_machine.specs.Reports.{Report, report}
 use Rattle.df_machine.specs.Runs.{after, IsClash}
 use Rattle.df_cells.specs.Schedules.{choices_of}
 use Rattle.df_machine.specs.ThreeCells.{three_cells}
@@ -15,7 +17,7 @@ use Rattle.df_top.specs.Meanings.{inputs_of, mean}
 use Rattle.df_top.specs.Duals.{dual_text, unit_flow}
 use Rattle.df_top.specs.Reports.{report_text}
 use Rattle.df_top.specs.Effects.{Effect}
-use Rattle.df_top.specs.Verdicts.{Task, Run}
+use Rattle.df_top.specs.Verdicts.{Task, CompileAndRun, RunCells}
 
 -- For all valid inputs and every list of choices, of any length, no event on the way is a clash, and
 -- each result is a prefix of the same result of the program's meaning.
@@ -30,14 +32,21 @@ pub record IsFaithful (program : Program) (cells : List Cell) : Type 0 where
 -- These are the cells of the program: an input, an addition and an output in a row.
 pub record IsCompiled (program : Program) (cells : List Cell) : Type 0 where
   pub skeleton : cells ≡ three_cells (codes "A") program.elements program.addend
+  pub well_formed : WellFormed cells
   pub faithful : IsFaithful program cells
+
+-- the report of a run, and whether it is drained
+abbrev pub run_of : List Cell → List (List Value) → Schedule → Report
+run_of cells inputs schedule = report cells inputs (choices_of schedule)
 
 -- What may be written for a task. One list of cells stands for the files, the text and the status.
 abbrev pub MayDo : Task → Effect → Type 0
-MayDo (Run program inputs schedule cells_name dual_name) effect =
+MayDo (CompileAndRun program inputs schedule cells_name dual_name) effect =
     (cells : List Cell) × IsCompiled program cells
     × (effect ≡ record {
       files = (cells_name, cell_text cells) ∷ (dual_name, dual_text unit_flow) ∷ [];
-      text = report_text (report cells inputs (choices_of schedule));
-      is_done = (report cells inputs (choices_of schedule)).drained;
+      text = report_text (run_of cells inputs schedule);
+      is_done = (run_of cells inputs schedule).drained;
     })
+MayDo (RunCells cells inputs schedule) effect =
+    effect ≡ record { files = []; text = report_text (run_of cells inputs schedule); is_done = (run_of cells inputs schedule).drained }

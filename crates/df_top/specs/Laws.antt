@@ -1,10 +1,12 @@
 -- What is promised of the cells of every program, and of the verdict.
-use Rattle.std.specs.Prelude.{◌≡◌, codes}
+use Rattle.std.specs.Prelude.{◌≡◌, ℕ, List, Result, codes}
 use Rattle.df_io.specs.Told.{Holds}
+use Rattle.df_cells.specs.declared.cells.Cell.{Cell}
 use Rattle.df_machine.specs.ThreeCells.{three_cells}
 use Rattle.df_top.specs.Compiled.{IsFaithful}
 use Rattle.df_top.specs.Orders.{Order}
 use Rattle.df_top.specs.Ready.{IsWithin}
+use Rattle.df_top.specs.Texts.{ReadsCellFile}
 use Rattle.df_top.specs.Verdicts.{Verdict, Judges}
 use Rattle.df_top.specs.declared.program.Program.{Program}
 
@@ -19,3 +21,11 @@ HasOneVerdict = (order : Order) (holds : Holds) (v w : Verdict) → Judges order
 -- it can't be that there is none
 abbrev pub HasSomeVerdict : Type 0
 HasSomeVerdict = (order : Order) (holds : Holds) → ¬ ((v : Verdict) → ¬ Judges order holds v)
+
+-- the text of a cell file has one reading at most
+abbrev pub CellFilesHaveOneReading : Type 0
+CellFilesHaveOneReading = (text : List ℕ) (one other : Result (List Cell) (List ℕ)) → ReadsCellFile text one → ReadsCellFile text other → one ≡ other
+
+-- there is no text without a reading
+abbrev pub CellFilesHaveReadings : Type 0
+CellFilesHaveReadings = (text : List ℕ) → ¬ ((reading : Result (List Cell) (List ℕ)) → ¬ ReadsCellFile text reading)

@@ -1,7 +1,6 @@
 pub mod Lines
 pub mod Sources
-pub mod Inputs
-pub mod Schedules
+pub mod Texts
 pub mod Meanings
 pub mod Compiled
 pub mod Duals
@@ -16,8 +15,6 @@ pub mod Plans
 pub mod Judged
 pub mod Carried
 pub mod Scanned
-pub mod Separators
-pub mod PlainKinds
 pub mod Ready
 pub mod Chain
 pub mod Laws

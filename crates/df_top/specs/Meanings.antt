@@ -1,5 +1,5 @@
 -- What a program means: its results under inputs, with nothing said of cells or of the order of events.
-use Rattle.std.specs.Prelude.{ℕ, ℤ, pos, List, [], ◌∷◌, map, get_or}
+use Rattle.std.specs.Prelude.{ℕ, pos, List, [], ◌∷◌, map, get_or, codes}
 use Rattle.std.specs.List.{range_with_len}
 use Rattle.df_values.specs.declared.values.Value.{Value}
 use Rattle.df_values.specs.declared.values.Value.TheVariants.{Int}
@@ -8,11 +8,17 @@ use Rattle.df_values.specs.declared.kinds.Op.TheVariants.{Add}
 use Rattle.df_values.specs.Operators.{element_at}
 use Rattle.df_values.specs.Tables.{answer}
 use Rattle.df_values.specs.Inputs.{Declaration}
+use Rattle.df_cells.specs.declared.cells.InputDecl.{InputDecl}
+use Rattle.df_cells.specs.Cells.{declaration_of}
 use Rattle.df_top.specs.declared.program.Program.{Program}
 
 -- the one input, the array A
+abbrev pub decls_of : Program → List InputDecl
+decls_of program = record { name = codes "A"; basic = Integer; length = program.elements } ∷ []
+
+-- what is declared of its list
 abbrev pub inputs_of : Program → List Declaration
-inputs_of program = record { basic = Integer; length = program.elements } ∷ []
+inputs_of program = map declaration_of (decls_of program)
 
 -- A[i] + K
 abbrev pub element : Program → List Value → ℕ → Value

@@ -1,19 +1,13 @@
 -- What is taken from the front of a text.
-use Rattle.std.specs.Prelude.{◌≡◌, ◌++◌, ℕ, ℤ, List}
+use Rattle.std.specs.Prelude.{◌≡◌, ◌++◌, ℕ, List}
 use Rattle.df_top.specs.Lines.{IsEnd}
-use Rattle.df_values.specs.Decimals.{LeadsWith, LeadsWithInteger}
+use Rattle.df_values.specs.Decimals.{LeadsWith}
 
 -- the text is the piece, the decimal of n and then `rest`, which begins with no digit
 pub record LeadsAfter (piece text : List ℕ) (n : ℕ) (rest : List ℕ) : Type 0 where
   pub behind : List ℕ
   pub parts : text ≡ piece ++ behind
   pub number : LeadsWith behind n rest
-
--- the same with an integer
-pub record LeadsAfterInteger (piece text : List ℕ) (z : ℤ) (rest : List ℕ) : Type 0 where
-  pub behind : List ℕ
-  pub parts : text ≡ piece ++ behind
-  pub integer : LeadsWithInteger behind z rest
 
 -- the text is the piece, and a line feed behind it if anything
 pub record EndsAfter (piece text : List ℕ) : Type 0 where

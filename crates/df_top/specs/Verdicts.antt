@@ -3,17 +3,22 @@ use Rattle.std.specs.Prelude.{◌≡◌, ℕ, List, ◌++◌, length, Option, So
 use Rattle.std.specs.FinMap as table
 use Rattle.df_io.specs.Told.{Holds}
 use Rattle.df_values.specs.declared.values.Value.{Value}
+use Rattle.df_cells.specs.declared.cells.Cell.{Cell}
+use Rattle.df_cells.specs.declared.cells.InputDecl.{InputDecl}
 use Rattle.df_cells.specs.declared.schedules.Schedule.{Schedule}
+use Rattle.df_cells.specs.Cells.{inputs_of}
 use Rattle.df_top.specs.declared.program.Program.{Program}
-use Rattle.df_top.specs.Orders.{Order, Go}
+use Rattle.df_top.specs.Orders.{Order, Go, Run}
 use Rattle.df_top.specs.Lines.{refusal}
+use Rattle.df_top.specs.Meanings.{decls_of}
 use Rattle.df_top.specs.Sources.{ReadsSource}
-use Rattle.df_top.specs.Inputs.{ReadsInput}
-use Rattle.df_top.specs.Schedules.{ReadsSchedule}
+use Rattle.df_top.specs.Texts.{ReadsInputText, ReadsScheduleText, ReadsCellFile}
 
--- what the texts of a command ask for, once none of them is refused
+-- What the texts of a command ask for, once none of them is refused: that a program is compiled and its cells are run and written,
+-- or that cells are run.
 pub data Task : Type 0 where
-  Run : (program : Program) (inputs : List (List Value)) (schedule : Schedule) (cells dual : List ℕ) → Task
+  CompileAndRun : (program : Program) (inputs : List (List Value)) (schedule : Schedule) (cells dual : List ℕ) → Task
+  RunCells : (cells : List Cell) (inputs : List (List Value)) (schedule : Schedule) → Task
 
 -- A file to be read isn't there, a text is refused by this line, or the task is to be done.
 pub data Verdict : Type 0 where
@@ -23,12 +28,15 @@ pub data Verdict : Type 0 where
 
 -- ---- the reads
 
--- the most bytes of a source, and of an input or a schedule
+-- the most bytes of a source, of an input or a schedule, and of a cell file
 abbrev pub source_limit : ℕ
 source_limit = 1_048_576
 
 abbrev pub text_limit : ℕ
 text_limit = 16_777_216
+
+abbrev pub cells_limit : ℕ
+cells_limit = 33_554_432
 
 -- the text of a file, unless it isn't there or is over its limit
 abbrev pub within : Option (List ℕ) → ℕ → List ℕ → Result (List ℕ) Verdict
@@ -39,9 +47,27 @@ within (Some text) limit label =
 unfoldable pub text_at : Holds → List ℕ → ℕ → List ℕ → Result (List ℕ) Verdict
 text_at holds name limit label = within (table.get holds name) limit label
 
--- The verdict is v where a read gives it. Else it is what `next` says of the text.
-abbrev pub AfterRead : Result (List ℕ) Verdict → Verdict → (List ℕ → Type 0) → Type 0
-AfterRead (Ok text) v next = next text
+-- the texts of a command: a source or cells, an input and a schedule
+pub record Texts : Type 0 where
+  pub first : List ℕ
+  pub input : List ℕ
+  pub schedule : List ℕ
+
+-- three texts, or the verdict of the first that isn't given
+abbrev pub all_three : Result (List ℕ) Verdict → Result (List ℕ) Verdict → Result (List ℕ) Verdict → Result Texts Verdict
+all_three (Ok first) (Ok input) (Ok schedule) = Ok (record { first = first; input = input; schedule = schedule })
+all_three (Err barred) input schedule = Err barred
+all_three (Ok first) (Err barred) schedule = Err barred
+all_three (Ok first) (Ok input) (Err barred) = Err barred
+
+-- All files are read in this order, each within its limit, before the first text is judged.
+abbrev pub texts_at : Holds → (first : List ℕ) → (limit : ℕ) → (label input schedule : List ℕ) → Result Texts Verdict
+texts_at holds first limit label input schedule =
+    all_three (text_at holds first limit label) (text_at holds input text_limit (codes "input")) (text_at holds schedule text_limit (codes "schedule"))
+
+-- The verdict is v where the reads give it. Else it is what `next` says of the texts.
+abbrev pub AfterRead : Result Texts Verdict → Verdict → (Texts → Type 0) → Type 0
+AfterRead (Ok texts) v next = next texts
 AfterRead (Err barred) v next = v ≡ barred
 
 -- ---- the texts
@@ -56,18 +82,26 @@ pub record AfterText {A : Type 0} (Reads : Result A (List ℕ) → Type 0) (v : 
   pub reads : Reads read
   pub goes : Goes read v next
 
--- The texts are judged in their order.
-abbrev pub JudgesTexts : (source input schedule : List ℕ) → (cells dual : List ℕ) → Verdict → Type 0
-JudgesTexts source input schedule cells dual v =
-    AfterText (ReadsSource source) v (λ program.
-    AfterText (ReadsInput program.elements input) v (λ inputs.
-    AfterText (ReadsSchedule schedule) v (λ choices.
-    v ≡ Accepted (Run program inputs choices cells dual))))
+-- The inputs that are declared and then the schedule are judged, and the task is to be done that they complete.
+abbrev pub JudgesRun : List InputDecl → (input schedule : List ℕ) → (List (List Value) → Schedule → Task) → Verdict → Type 0
+JudgesRun decls input schedule task v =
+    AfterText (ReadsInputText decls input) v (λ inputs.
+    AfterText (ReadsScheduleText schedule) v (λ choices.
+    v ≡ Accepted (task inputs choices)))
 
--- All files are read in this order, each within its limit, before the first text is judged.
+-- The texts are judged in their order, the source or the cells first.
+abbrev pub JudgesGo : (source input schedule : List ℕ) → (cells dual : List ℕ) → Verdict → Type 0
+JudgesGo source input schedule cells dual v =
+    AfterText (ReadsSource source) v (λ program.
+    JudgesRun (decls_of program) input schedule (λ inputs choices. CompileAndRun program inputs choices cells dual) v)
+
+abbrev pub JudgesCells : (cells input schedule : List ℕ) → Verdict → Type 0
+JudgesCells cells input schedule v =
+    AfterText (ReadsCellFile cells) v (λ list.
+    JudgesRun (inputs_of list) input schedule (λ inputs choices. RunCells list inputs choices) v)
+
 abbrev pub Judges : Order → Holds → Verdict → Type 0
 Judges (Go source input schedule cells dual) holds v =
-    AfterRead (text_at holds source source_limit (codes "source")) v (λ source_text.
-    AfterRead (text_at holds input text_limit (codes "input")) v (λ input_text.
-    AfterRead (text_at holds schedule text_limit (codes "schedule")) v (λ schedule_text.
-    JudgesTexts source_text input_text schedule_text cells dual v)))
+    AfterRead (texts_at holds source source_limit (codes "source") input schedule) v (λ texts. JudgesGo texts.first texts.input texts.schedule cells dual v)
+Judges (Run cells input schedule) holds v =
+    AfterRead (texts_at holds cells cells_limit (codes "cells") input schedule) v (λ texts. JudgesCells texts.first texts.input texts.schedule v)

@@ -16,6 +16,12 @@ pub enum Command<'a> {
         cells: &'a String,
         dual: &'a String,
     },
+    /// Runs the cells of a file.
+    Run {
+        cells: &'a String,
+        input: &'a String,
+        schedule: &'a String,
+    },
 }
 
 fn is_same(a: &String, b: &String) -> bool
@@ -29,6 +35,11 @@ pub fn command_of(words: &[String]) -> Option<Command<'_>>
     ensures { option_map order_meant result ≡ order_of (map string_bytes words.now) }
 {
     match words {
+        [command, cells, input, schedule] if command.as_str() == "run" => Some(Command::Run {
+            cells,
+            input,
+            schedule,
+        }),
         [command, source, input, schedule, cells, dual] if command.as_str() == "go" => {
             let cells_named_twice = is_same(cells, source)
                 || is_same(cells, input)

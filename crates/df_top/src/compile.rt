@@ -1,6 +1,5 @@
 //! The cells of a program.
 ghost use Rattle.std.specs.Prelude.{◌≡◌, IfOk};
-ghost use Rattle.df_machine.specs.CanRun.{CanRun};
 ghost use Rattle.df_top.specs.Compiled.{IsCompiled};
 ghost use Rattle.df_top.specs.Ready.{IsWithin};
 ghost use Rattle.df_top.specs.Chain.{dests_at};
@@ -11,7 +10,7 @@ use df_cells::cells::{Cell, CellId, Cells, Dest, Feed, Port};
 use df_cells::kinds::Kind;
 use df_cells::ports::{Dests, Ports};
 use df_machine::laws::{
-    can_run_three_cells, has_all_results, never_clashes, results_follow_labels,
+    has_all_results, never_clashes, results_follow_labels, three_cells_are_well_formed,
 };
 use df_values::memory::Memory;
 use df_values::name::Name;
@@ -25,7 +24,7 @@ pub fn always_faithful()
     never_clashes();
     results_follow_labels();
     has_all_results();
-    can_run_three_cells();
+    three_cells_are_well_formed();
 }
 
 fn ports_of(alloc: Global, feeds: &[Feed]) -> Result<Ports, Memory>
@@ -80,11 +79,10 @@ fn cell_to(
 /// of what the program means.
 pub fn compile(alloc: Global, program: Program) -> Result<Cells, Memory>
     requires { IsWithin program }
-    ensures compiled { IfOk result (IsCompiled program) }
-    ensures can_run { IfOk result CanRun }
+    ensures { IfOk result (IsCompiled program) }
 {
     always_faithful();
-    can_run_three_cells();
+    three_cells_are_well_formed();
     let input = Kind::In {
         name: Name::new(b"A"),
         basic: Basic::Integer,

@@ -5,19 +5,17 @@
 //! exactly when, and what stands then.
 #![tactic(auto)]
 
-pub mod cell_text;
 mod command;
 pub mod compile;
 pub mod dual_text;
-mod input;
 mod judge;
 pub mod laws;
 mod plan;
 mod planned;
 pub mod program;
+mod refusals;
 pub mod report;
 mod scanner;
-mod schedule_text;
 mod source;
 mod status;
 mod stop;
@@ -28,4 +26,8 @@ pub use status::Status;
 pub use top::valflow;
 
 #[cfg(test)]
+mod machine_tests;
+#[cfg(test)]
 mod tests;
+#[cfg(test)]
+mod text_tests;

@@ -4,15 +4,14 @@ ghost use Rattle.df_values.specs.declared.values.Value.TheVariants.{Int};
 ghost use Rattle.std.specs.Prelude.{pos};
 ghost use Rattle.df_machine.specs.ThreeCells.{three_cells};
 
-
-use crate::laws::three_cells_are_well_formed;
-use crate::machine::{Machine, NoEvent};
-use crate::packets::Event;
-use crate::runs::{RunEnd, ScheduleChooser, run};
 use df_cells::cells::{Cell, CellId, Cells, Dest, Feed, Port};
 use df_cells::kinds::Kind;
 use df_cells::ports::{Dests, Ports};
 use df_cells::schedules::{Choices, Schedule};
+use df_machine::laws::three_cells_are_well_formed;
+use df_machine::machine::{Machine, NoEvent};
+use df_machine::packets::Event;
+use df_machine::runs::{RunEnd, ScheduleChooser, run};
 use df_values::memory::Memory;
 use df_values::name::Name;
 use df_values::streams::Streams;

@@ -1,5 +1,6 @@
 //! What a command asks for, and what it writes.
 use crate::program::Program;
+use df_cells::cells::Cells;
 use df_cells::schedules::Schedule;
 use df_values::bytes::Bytes;
 use df_values::streams::Streams;
@@ -8,12 +9,18 @@ use df_values::streams::Streams;
 #[derive(Drop)]
 pub enum Task<'a> {
     /// Compile the program, and run its cells on the inputs by the schedule.
-    Run {
+    CompileAndRun {
         program: Program,
         inputs: Streams,
         schedule: Schedule,
         cells: &'a String,
         dual: &'a String,
+    },
+    /// Run these cells on the inputs by the schedule.
+    RunCells {
+        cells: Cells,
+        inputs: Streams,
+        schedule: Schedule,
     },
 }
 

@@ -1,27 +1,25 @@
 //! What a task writes.
-ghost use Rattle.std.specs.Prelude.{◌≡◌, ◌≤◌, length, string_bytes, IfOk};
-ghost use Rattle.df_machine.specs.CanRun.{CanRun, Fits};
-ghost use Rattle.df_cells.specs.Cells.{port_of};
-ghost use Rattle.df_machine.specs.Reports.{report};
-ghost use Rattle.df_cells.specs.Schedules.{choices_of};
-ghost use Rattle.df_top.specs.Compiled.{MayDo};
+ghost use Rattle.std.specs.Prelude.{◌≡◌, string_bytes, IfOk};
+ghost use Rattle.df_cells.specs.Cells.{declarations, port_of};
+ghost use Rattle.df_cells.specs.WellFormed.{WellFormed};
+ghost use Rattle.df_top.specs.Compiled.{MayDo, run_of};
 ghost use Rattle.df_top.specs.Plans.{effect_of, task_meant};
-ghost use Rattle.df_top.specs.Ready.{IsReady, IsWithin};
+ghost use Rattle.df_top.specs.Ready.{IsReady, IsWithin, HasFewChoices};
 ghost use Rattle.df_top.specs.Meanings.{inputs_of};
-ghost use Rattle.df_top.specs.Verdicts.{Run};
+ghost use Rattle.df_top.specs.Verdicts.{CompileAndRun, RunCells};
 ghost use Rattle.df_values.specs.Inputs.{AreValid};
 ghost use Rattle.df_top.specs.Reports.{report_text};
 
-use crate::cell_text::write_cells;
 use crate::compile::compile;
 use crate::dual_text::{ArcFlow, write_dual};
 use crate::plan::{NewFile, Plan, Task};
 use crate::program::Program;
 use crate::report::report;
 use df_cells::cells::{CellId, Cells, Dest, Port};
+use df_cells::schedules::Schedule;
+use df_celltext::writer::write_cells;
 use df_machine::machine::Machine;
 use df_machine::runs::{ScheduleChooser, run};
-use df_cells::schedules::Schedule;
 use df_values::bytes::Bytes;
 use df_values::memory::Memory;
 use df_values::streams::Streams;
@@ -44,11 +42,11 @@ fn run_cells(
     inputs: Streams,
     schedule: &Schedule,
 ) -> Result<Ran, Memory>
-    requires can_run { CanRun cells }
-    requires fits { Fits cells inputs.lists }
-    requires few { length (choices_of schedule.now) ≤ 1_001_000_000 }
-    ensures text { IfOk result (λ ran. ran.text ≡ report_text (report cells inputs.lists (choices_of schedule.now))) }
-    ensures drained { IfOk result (λ ran. ran.is_drained ≡ (report cells inputs.lists (choices_of schedule.now)).drained) }
+    requires well_formed { WellFormed cells }
+    requires valid { AreValid (declarations cells) inputs.lists }
+    requires few { HasFewChoices schedule.now }
+    ensures text { IfOk result (λ ran. ran.text ≡ report_text (run_of cells inputs.lists schedule.now)) }
+    ensures drained { IfOk result (λ ran. ran.is_drained ≡ (run_of cells inputs.lists schedule.now).drained) }
 {
     let mut machine = Machine::load(alloc, cells, inputs)?;
     let end = run(
@@ -75,8 +73,8 @@ fn unit_to(cell: u32) -> ArcFlow
     }
 }
 
-// The cells, their dual flow and the report of a run. One list of cells stands for all three.
-fn plan_of_run<'a>(
+// The cells of a program, their dual flow and the report of their run. One list of cells stands for all three.
+fn plan_of_program<'a>(
     alloc: Global,
     program: Program,
     inputs: Streams,
@@ -86,9 +84,9 @@ fn plan_of_run<'a>(
 ) -> Result<Plan<'a>, Memory>
     requires within { IsWithin program }
     requires valid { AreValid (inputs_of program) inputs.lists }
-    requires few { length (choices_of schedule.now) ≤ 1_001_000_000 }
+    requires few { HasFewChoices schedule.now }
     ensures { IfOk result (λ plan.
-        MayDo (Run program inputs.lists schedule.now (string_bytes cells_name.now) (string_bytes dual_name.now)) (effect_of plan)) }
+        MayDo (CompileAndRun program inputs.lists schedule.now (string_bytes cells_name.now) (string_bytes dual_name.now)) (effect_of plan)) }
 {
     let cells = compile(alloc, program)?;
     let cell_text = write_cells(alloc, &cells)?;
@@ -110,18 +108,43 @@ fn plan_of_run<'a>(
     })
 }
 
+// The report of a run of cells.
+fn plan_of_cells<'a>(
+    alloc: Global,
+    cells: Cells,
+    inputs: Streams,
+    schedule: &Schedule,
+) -> Result<Plan<'a>, Memory>
+    requires well_formed { WellFormed cells }
+    requires valid { AreValid (declarations cells) inputs.lists }
+    requires few { HasFewChoices schedule.now }
+    ensures { IfOk result (λ plan. MayDo (RunCells cells inputs.lists schedule.now) (effect_of plan)) }
+{
+    let ran = run_cells(alloc, cells, inputs, schedule)?;
+    Ok(Plan {
+        files: Vec::new(alloc),
+        text: ran.text,
+        is_done: ran.is_drained,
+    })
+}
+
 /// The files and the report of a task. The only error is want of memory.
 pub fn plan_for<'a>(alloc: Global, task: Task<'a>) -> Result<Plan<'a>, Memory>
     requires { IsReady (task_meant task) }
     ensures { IfOk result (λ plan. MayDo (task_meant task.entry) (effect_of plan)) }
 {
     match task {
-        Task::Run {
+        Task::CompileAndRun {
             program,
             inputs,
             schedule,
             cells,
             dual,
-        } => plan_of_run(alloc, program, inputs, &schedule, cells, dual),
+        } => plan_of_program(alloc, program, inputs, &schedule, cells, dual),
+        Task::RunCells {
+            cells,
+            inputs,
+            schedule,
+        } => plan_of_cells(alloc, cells, inputs, &schedule),
     }
 }

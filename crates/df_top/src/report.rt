@@ -1,36 +1,14 @@
 //! The text that reports a run.
-ghost use Rattle.std.specs.Prelude.{◌≡◌, ◌++◌, ◌∷◌, [], OnOk, IfOk};
-ghost use Rattle.df_top.specs.Reports.{report_text, result_lines, spaced_counts};
+ghost use Rattle.std.specs.Prelude.{◌≡◌, ◌++◌, OnOk, IfOk};
+ghost use Rattle.df_top.specs.Reports.{report_text, spaced_counts};
 
 use df_cells::cells::CellId;
+use df_iotext::printing::print_outputs;
 use df_machine::machine::Machine;
 use df_machine::runs::RunEnd;
 use df_values::bytes::Bytes;
 use df_values::memory::Memory;
-use df_values::values::Value;
 use std::alloc::Global;
-
-// The line of result k.
-fn push_result(text: &mut Bytes, k: u32, values: &[Value]) -> Result<(), Memory>
-    ensures { OnOk result (text.new ≡ text.old ++ result_lines k (values.now ∷ [])) }
-{
-    text.push_text("result ")?;
-    text.push_number(u64::from(k))?;
-    text.push_text(" =")?;
-    text.push_spaced_values(values)?;
-    text.push_text("\n")
-}
-
-// A line for each result.
-fn push_results(text: &mut Bytes, machine: &Machine) -> Result<(), Memory>
-    ensures { OnOk result (text.new ≡ text.old ++ result_lines 1 machine.now.state.results) }
-{
-    let _cells = machine.cells();
-    for k in 0..machine.output_count() {
-        push_result(text, k + 1, machine.output(k + 1))?;
-    }
-    Ok(())
-}
 
 // For each cell, how often it fired.
 fn push_firings(text: &mut Bytes, machine: &Machine) -> Result<(), Memory>
@@ -59,7 +37,7 @@ pub fn report(alloc: Global, machine: &Machine, end: RunEnd) -> Result<Bytes, Me
     text.push_text("\nevents ")?;
     text.push_number(end.events)?;
     text.push_text("\n")?;
-    push_results(&mut text, machine)?;
+    text.push_slice(print_outputs(alloc, machine.results())?.as_slice())?;
     text.push_text("fired")?;
     push_firings(&mut text, machine)?;
     text.push_text("\n")?;

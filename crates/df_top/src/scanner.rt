@@ -1,12 +1,10 @@
 //! A text that is read from its front.
-ghost use Rattle.std.specs.Prelude.{◌≡◌, ◌≤◌, ◌↔◌, ◌++◌, List, ℕ, ℤ, IsTrue, IfSome, IfNone};
+ghost use Rattle.std.specs.Prelude.{◌≡◌, ◌≤◌, ◌↔◌, ◌++◌, List, ℕ, IsTrue, IfSome, IfNone};
 ghost use Rattle.std.specs.Bool.{OnTrue, OnFalse};
-ghost use Rattle.df_values.specs.Values.{IsOrdinary};
 ghost use Rattle.df_top.specs.Lines.{IsEnd};
-ghost use Rattle.df_top.specs.Scanned.{LeadsAfter, LeadsAfterInteger, EndsAfter};
+ghost use Rattle.df_top.specs.Scanned.{LeadsAfter, EndsAfter};
 
-use df_values::decimals::{leading_integer, leading_number};
-use df_values::values::Integer;
+use df_values::decimals::leading_number;
 use std::marker::Model;
 
 /// What is left of a text.
@@ -76,24 +74,6 @@ impl<'a> Scanner<'a> {
         }
         self.rest = &behind[length..];
         Some(number)
-    }
-
-    /// Takes this piece and an ordinary integer behind it: in decimal, without leading zeros, as far as there are digits.
-    /// Where they aren't there nothing is taken.
-    pub fn integer_after(&mut self, piece: &[u8]) -> Option<Integer>
-        ensures taken { IfSome result (λ z. LeadsAfterInteger piece.now self.old z self.new) }
-        ensures ordinary { IfSome result IsOrdinary }
-        ensures refused { IfNone result ((z : ℤ) (rest : List ℕ) → IsOrdinary z → ¬ LeadsAfterInteger piece.now self.old z rest) }
-        ensures left { IfNone result (self.new ≡ self.old) }
-    {
-        let Some(behind) = after(self.rest, piece) else {
-            return None;
-        };
-        let Some((integer, length)) = leading_integer(behind) else {
-            return None;
-        };
-        self.rest = &behind[length..];
-        Some(integer)
     }
 
     /// Whether what is left is this piece, and a line feed behind it if anything.

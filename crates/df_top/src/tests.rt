@@ -39,7 +39,10 @@ fn copied(alloc: Global, bytes: Option<&[u8]>) -> Result<Option<Vec<u8>>, Fail> 
     }
 }
 
-// Runs a command over the files P, I and S, with these calls failing.
+const RING: &str =
+    "dataflow 1 2\n0 NEG stage 0 loop 1 ports @1 dests 1.0\n1 NEG stage 0 loop 1 ports @0 dests 0.0\nend\n";
+
+// Runs a command over the files P, I and S, with these calls failing. P holds a source or cells.
 fn run_command(
     alloc: Global,
     words: &str,
@@ -128,43 +131,43 @@ fn statuses_and_lines(rt: HostRuntime) -> Result<(), Fail> {
         ),
         (
             "go P I S C D",
-            [ONE, "A = 5 6\n", "00"],
+            [ONE, "A = 5 6\n", "drain"],
             Status::Refused,
-            "refused NotBuilt input\n",
+            "refused WrongLength A 2 1\n",
         ),
         (
             "go P I S C D",
-            [ONE, "A = 05\n", "0"],
+            [ONE, "\nA = 5;\n", "0"],
             Status::Refused,
-            "refused NotBuilt input\n",
+            "refused BadInput 2\n",
         ),
         (
             "go P I S C D",
-            [ONE, "A = -0\n", "0"],
+            [ONE, "B = 5\n", "0"],
             Status::Refused,
-            "refused NotBuilt input\n",
+            "refused ExtraInput 1\n",
         ),
         (
             "go P I S C D",
-            [ONE, "A = 5\n", "00"],
+            [ONE, "% nothing\n", "0"],
             Status::Refused,
-            "refused NotBuilt schedule\n",
+            "refused MissingInput A\n",
         ),
         (
             "go P I S C D",
             [ONE, "A = 5\n", "0 drain"],
             Status::Refused,
-            "refused NotBuilt schedule\n",
+            "refused BadSchedule 2\n",
         ),
         (
             "go P I S C D",
             [ONE, "A = 5\n", "drain 1000000001"],
             Status::Refused,
-            "refused NotBuilt schedule\n",
+            "refused BadSchedule 2\n",
         ),
         ("go P I S X X", [ONE, "A = 5\n", "0"], Status::Usage, USAGE),
         ("go P I S P D", [ONE, "A = 5\n", "0"], Status::Usage, USAGE),
-        ("run C I S", [ONE, "A = 5\n", "0"], Status::Usage, USAGE),
+        ("run P I", [CELLS, "A = 5\n", "0"], Status::Usage, USAGE),
         ("", [ONE, "A = 5\n", "0"], Status::Usage, USAGE),
         ("go P J S C D", [ONE, "A = 5\n", "0"], Status::ReadFault, ""),
     ];
@@ -175,6 +178,55 @@ fn statuses_and_lines(rt: HostRuntime) -> Result<(), Fail> {
         let has_run = status == Status::Done || status == Status::Stopped;
         assert_eq!(rt; found.cells.is_some(), has_run, "at {words}");
         assert_eq!(rt; found.dual.is_some(), has_run, "at {words}");
+    }
+    Ok(())
+}
+
+#[test]
+fn cells_from_a_file_are_run(rt: HostRuntime) -> Result<(), Fail> {
+    let alloc = rt.alloc();
+    let rows = [
+        ([CELLS, "A = 5\n", "drain 100\n"], Status::Done, DRAINED),
+        (
+            [CELLS, "A = 5", "0 0 0"],
+            Status::Stopped,
+            "stopped\nevents 3\nresult 1 =\nfired 1 0 0\n",
+        ),
+        (
+            [RING, "", "drain 1"],
+            Status::Done,
+            "drained\nevents 0\nfired 0 0\n",
+        ),
+        (
+            ["dataflow 1 1\n0 CTL stage 0", "A", "x"],
+            Status::Refused,
+            "refused BadCellText 2\n",
+        ),
+        (
+            [
+                "dataflow 1 1\n0 CTL stage 0 loop 1 ports dests\nend\n",
+                "A",
+                "x",
+            ],
+            Status::Refused,
+            "refused BadCells loop 0\n",
+        ),
+        (
+            [CELLS, "A = pos_over 1\n", "x"],
+            Status::Refused,
+            "refused WrongLength A 2 1\n",
+        ),
+        (
+            [CELLS, "A = 1", "0 -1"],
+            Status::Refused,
+            "refused BadSchedule 2\n",
+        ),
+    ];
+    for (texts, status, out) in rows {
+        let found = run_command(alloc, "run P I S", texts, Vec::new(alloc), Vec::new(alloc))?;
+        assert_eq!(rt; found.status, status);
+        assert_eq!(rt; found.out.as_slice(), out.as_bytes());
+        assert_eq!(rt; found.cells.is_none(), true);
     }
     Ok(())
 }

@@ -11,6 +11,7 @@ ghost use Rattle.df_top.specs.Plans.{effect_of};
 
 use crate::command::{Command, command_of};
 use crate::judge::task_of;
+use crate::laws::has_one_verdict;
 use crate::plan::Plan;
 use crate::planned::plan_for;
 use crate::status::Status;
@@ -81,6 +82,7 @@ fn obey<F: Files, K: Sink>(
     ensures counts { KeepsCounts (F.faults files.old) (F.faults files.new) }
     ensures out_counts { HasSinkCause ⊥ (K.faults out.old) (K.faults out.new) }
 {
+    has_one_verdict();
     match task_of(alloc, files, command) {
         Ok(task) => match plan_for(alloc, task) {
             Ok(plan) => carry_out(files, out, &plan),
@@ -127,6 +129,7 @@ pub fn valflow<F: Files, K: Sink>(
     ensures counts { KeepsCounts (F.faults files.old) (F.faults files.new) }
     ensures out_counts { HasSinkCause ⊥ (K.faults out.old) (K.faults out.new) }
 {
+    has_one_verdict();
     match command_of(words.as_slice()) {
         Some(command) => obey(alloc, command, files, out),
         None => ended(write_out(out, USAGE), Status::Usage),

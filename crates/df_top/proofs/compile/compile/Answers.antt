@@ -2,7 +2,7 @@ use Rattle.std.proofs.Common.{◌≡◌, ◌++◌, ◌∷◌, [], ◌∙◌, sym
 use Rattle.std.proofs.lemmas.Int.{to_z_pos}
 use Rattle.df_top.proofs.SourceTexts.{small_addend}
 use Rattle.df_values.specs.Values.{least, greatest}
-use Rattle.df_machine.specs.CanRun.{CanRun}
+use Rattle.df_cells.specs.WellFormed.{WellFormed}
 use Rattle.df_machine.specs.ThreeCells.{three_cells}
 use Rattle.df_top.specs.Compiled.{IsFaithful}
 use Rattle.df_top.proofs.compile.compile.Goals as goal
@@ -19,13 +19,10 @@ same_cells c =
     ∙ ap (λ before. before ++ c.in_ok-cell_to.field-0 ∷ []) c.new-cells.ensures))
     ∙ rw (c.in_ok-cell_to.ensures, c.in_ok-cell_to-2.ensures, c.in_ok-cell_to-3.ensures, c.new.ensures, to_z_pos w32 c.args.program.addend (small_addend c.args.program c.requires.ordinary)) refl
 
-pub returns-clause-compiled : goal.returns-clause-compiled
-returns-clause-compiled c = record {
-  skeleton = same_cells c;
-  faithful = subst (IsFaithful c.args.program) (sym (same_cells c)) (c.always_faithful.ensures c.args.program c.requires);
-}
-
-pub returns-clause-can_run : goal.returns-clause-can_run
-returns-clause-can_run c =
-    let few = c.requires.few in
-    subst CanRun (sym (same_cells c)) (c.can_run_three_cells.ensures (codes "A") c.args.program.elements c.args.program.addend (omega arith))
+pub returns : goal.returns
+returns c =
+    let few = c.requires.few in record {
+      skeleton = same_cells c;
+      well_formed = subst WellFormed (sym (same_cells c)) (c.three_cells_are_well_formed.ensures (codes "A") c.args.program.elements c.args.program.addend (omega arith));
+      faithful = subst (IsFaithful c.args.program) (sym (same_cells c)) (c.always_faithful.ensures c.args.program c.requires);
+    }

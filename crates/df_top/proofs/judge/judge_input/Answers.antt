@@ -1,6 +1,7 @@
-use Rattle.std.proofs.Common.{ap, Err}
 use Rattle.df_top.proofs.judge.judge_input.Goals as goal
 
-pub returns-in_ok-refused-in-Err-NotBuilt : goal.returns-in_ok-refused-in-Err-NotBuilt
-returns-in_ok-refused-in-Err-NotBuilt c =
-    (c.in_ok-refused-in-Err-NotBuilt.ensures, c.in-Err-NotBuilt.ensures.refused (ap Err c.in-Err-NotBuilt.field-0-is))
+pub returns-in_ok-refused_input-in-Err : goal.returns-in_ok-refused_input-in-Err
+returns-in_ok-refused_input-in-Err c = record {
+  gives = (c.in-Err.answer, c.in_ok-refused_input-in-Err.ensures.line, c.in-Err.ensures.refused c.in_ok-refused_input-in-Err.ensures.told);
+  valid = tt;
+}

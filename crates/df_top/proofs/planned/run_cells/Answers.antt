@@ -1,14 +1,15 @@
 use Rattle.std.proofs.Common.{◌≡◌, ◌≤◌, ◌∙◌, ap, length, subst, sym}
-use Rattle.df_machine.specs.Reports.{Report, report}
+use Rattle.df_machine.specs.Reports.{Report}
 use Rattle.df_machine.specs.Runs.{run, events_from}
 use Rattle.df_cells.specs.Schedules.{choices_of}
+use Rattle.df_top.specs.Compiled.{run_of}
 use Rattle.df_top.specs.Reports.{report_text}
 use Rattle.df_top.proofs.RunReports.{same_report}
 use Rattle.df_top.proofs.planned.run_cells.Goals as goal
 
-reported : (c : goal.After-drop-machine-inside-10)
+reported : (c : goal.After-drop-machine-inside-11)
     → record { drained = c.run-end.result.drained; events = c.run-end.result.events; results = c.run-end.new.machine.state.results; fired = c.run-end.new.machine.state.fired }
-    ≡ report c.args.cells c.args.inputs.lists (choices_of c.args.schedule.now)
+    ≡ run_of c.args.cells c.args.inputs.lists c.args.schedule.now
 reported c =
     let few : length c.new.result ≤ 1001000000 = subst (λ l. length l ≤ 1001000000) (sym c.new.ensures) c.requires.few in
     let machine = c.in_ok-machine.machine in

@@ -1,6 +1,0 @@
-use Rattle.std.proofs.Common.{◌≡◌, ◌++◌, map, take}
-use Rattle.df_machine.specs.CellText.{spaced, dest_word}
-use Rattle.df_top.proofs.cell_text.push_dests.Given as goal
-
-abbrev pub invariant-loop-dest : goal.invariant-loop-dest
-invariant-loop-dest l = l.text ≡ l.fn.text ++ spaced (map dest_word (take l.dest-index l.dests))

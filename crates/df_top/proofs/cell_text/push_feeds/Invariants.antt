@@ -1,6 +1,0 @@
-use Rattle.std.proofs.Common.{◌≡◌, ◌++◌, map, take}
-use Rattle.df_machine.specs.CellText.{spaced, port_word}
-use Rattle.df_top.proofs.cell_text.push_feeds.Given as goal
-
-abbrev pub invariant-loop-feed : goal.invariant-loop-feed
-invariant-loop-feed l = l.text ≡ l.fn.text ++ spaced (map port_word (take l.feed-index l.feeds))

@@ -1,6 +1,0 @@
-use Rattle.std.proofs.Common.{◌≡◌, ◌++◌, map, take}
-use Rattle.df_machine.specs.CellText.{spaced, run_word}
-use Rattle.df_top.proofs.cell_text.push_runs.Given as goal
-
-abbrev pub invariant-loop-run : goal.invariant-loop-run
-invariant-loop-run l = l.text ≡ l.fn.text ++ spaced (map run_word (take l.run-index l.runs))

@@ -1,7 +1,0 @@
-use Rattle.std.proofs.Common.{◌≡◌, ◌++◌, take, length, codes}
-use Rattle.std.specs.Fmt.{decimal}
-use Rattle.df_machine.specs.CellText.{cell_lines}
-use Rattle.df_top.proofs.cell_text.write_cells.Given as goal
-
-abbrev pub invariant-loop-number : goal.invariant-loop-number
-invariant-loop-number l = l.text ≡ codes "dataflow 1 " ++ decimal (length l.cells) ++ codes "\n" ++ cell_lines 0 (take l.number l.cells)
