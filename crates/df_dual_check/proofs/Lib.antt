@@ -5,3 +5,5 @@ pub mod Stages
 pub mod Verdicts
 pub mod Prefixes
 pub mod LineLaws
+pub mod OneFault
+pub mod OneText

@@ -140,7 +140,7 @@ peel (a ∷ arcs) (f ∷ flow) (g ∷ other) tail m rest behind few each small a
 
 -- ---- the first wrong line
 
-lines_long : (arcs : List SkeletonArc) (flow : List ℕ) → length flow ≡ length arcs → length (flow_lines arcs flow) ≡ length arcs
+pub lines_long : (arcs : List SkeletonArc) (flow : List ℕ) → length flow ≡ length arcs → length (flow_lines arcs flow) ≡ length arcs
 lines_long [] flow each = refl
 lines_long (a ∷ arcs) [] each = absurd (omega (arith, each))
 lines_long (a ∷ arcs) (f ∷ flow) each = let rest = lines_long arcs flow (omega (arith, each)) in omega (arith, rest)

@@ -88,7 +88,7 @@ module _ (cells : List Cell) (well_formed : WellFormed cells) (suits : SuitsCell
 
 module _ (cells : List Cell) (well_formed : WellFormed cells) (suits : SuitsCells cells) (flow : List ℕ) where
   -- what is certified has none of the faults
-  not_certified : (answer : DualAnswer) → ShownWrong cells flow answer → IsCertified cells flow → ⊥
+  pub not_certified : (answer : DualAnswer) → ShownWrong cells flow answer → IsCertified cells flow → ⊥
   not_certified (NotBalanced d) (inl (i, within, named, wrong, before)) certified = wrong (each_balanced cells well_formed suits certified.balanced i within)
   not_certified (NotBalanced d) (inr (all, c, off, at)) certified = off.1 (certified.balanced.nodes c.0 off.0)
   not_certified (BadFlow c) (balanced, (node, within, named, wrong, before)) certified =

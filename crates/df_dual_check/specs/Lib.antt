@@ -2,3 +2,4 @@ pub mod Checked
 pub mod DualTexts
 pub mod LinesRead
 pub mod Rows
+pub mod Laws

@@ -8,6 +8,7 @@ pub mod answer;
 pub mod dual_check;
 pub mod dual_text;
 mod flows;
+pub mod laws;
 mod pieces;
 mod rising;
 mod staged;
