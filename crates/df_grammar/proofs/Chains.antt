@@ -14,7 +14,7 @@ use Rattle.df_syntax.specs.declared.tree.Named.{Named}
 use Rattle.df_syntax.specs.declared.tree.Sort.{Sort}
 use Rattle.df_syntax.specs.declared.tree.Definition.{Definition}
 use Rattle.df_syntax.specs.declared.tree.Assign.{Assign}
-use Rattle.df_syntax.specs.declared.program.Parameter.{Parameter}
+use Rattle.df_syntax.specs.declared.tree.Parameter.{Parameter}
 use Rattle.df_syntax.specs.declared.program.Function.{Function}
 use Rattle.df_syntax.specs.TokenClasses.{class, word_code, symbol_code}
 use Rattle.df_syntax.specs.Refusals.{openers, closers}

@@ -1,7 +1,7 @@
 -- Groups of parameters, one behind the other.
 use Rattle.std.proofs.Common.{◌≡◌, ℕ, ◌+◌, ◌<◌, List, [], ◌∷◌, ◌++◌, take, length, get_or, refl, sym, ◌∙◌, ap, append_assoc}
 use Rattle.std.proofs.lemmas.List.{append-nil, take_more}
-use Rattle.df_syntax.specs.declared.program.Parameter.{Parameter}
+use Rattle.df_syntax.specs.declared.tree.Parameter.{Parameter}
 use Rattle.df_syntax.specs.Grammar.{all_of}
 
 all_of_append : (xs ys : List (List Parameter)) → all_of (xs ++ ys) ≡ all_of xs ++ all_of ys

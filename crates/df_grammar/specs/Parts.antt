@@ -8,7 +8,7 @@ use Rattle.df_syntax.specs.declared.tree.Expr.{Expr}
 use Rattle.df_syntax.specs.declared.tree.Arm.{Arm}
 use Rattle.df_syntax.specs.declared.tree.Definition.{Definition}
 use Rattle.df_syntax.specs.declared.tree.Assign.{Assign}
-use Rattle.df_syntax.specs.declared.program.Parameter.{Parameter}
+use Rattle.df_syntax.specs.declared.tree.Parameter.{Parameter}
 use Rattle.df_syntax.specs.Grammar as g
 use Rattle.df_syntax.specs.Grammar.{Line, symbol, word, behind}
 use Rattle.df_syntax.specs.TokenClasses.{word_code}

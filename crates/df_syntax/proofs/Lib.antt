@@ -15,3 +15,5 @@ pub mod WorkedRows
 pub mod Folds
 pub mod Bounds
 pub mod SourceBounds
+pub mod Senses
+pub mod MeaningRows

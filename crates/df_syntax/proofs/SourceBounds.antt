@@ -13,7 +13,7 @@ use Rattle.df_syntax.specs.declared.tree.Sort.{Sort}
 use Rattle.df_syntax.specs.declared.tree.Expr.{Expr}
 use Rattle.df_syntax.specs.declared.program.Constant.{Constant}
 use Rattle.df_syntax.specs.declared.program.Range.{Range}
-use Rattle.df_syntax.specs.declared.program.Parameter.{Parameter}
+use Rattle.df_syntax.specs.declared.tree.Parameter.{Parameter}
 use Rattle.df_syntax.specs.declared.program.Function.{Function}
 use Rattle.df_syntax.specs.declared.program.Program.{Program}
 use Rattle.df_syntax.specs.TokenClasses.{class}

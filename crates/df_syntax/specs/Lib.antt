@@ -5,6 +5,7 @@ pub mod TokenList
 pub mod Pieces
 pub mod Tokens
 pub mod TokenClasses
+pub mod Trees
 pub mod Grammar
 pub mod Lines
 pub mod Parses
@@ -12,3 +13,8 @@ pub mod Reading
 pub mod Refusals
 pub mod Examples
 pub mod WellBuilt
+pub mod Meaning
+pub mod MeaningParts
+pub mod BlockMeaning
+pub mod WellShaped
+pub mod MeaningExamples

@@ -5,6 +5,8 @@ ghost use Rattle.df_syntax.specs.declared.token.Token as token;
 ghost use Rattle.df_syntax.specs.declared.program.Program as program;
 ghost use Rattle.df_syntax.specs.TokenClasses.{Class, code};
 ghost use Rattle.df_syntax.specs.Examples.{chain_tokens, chain_tree, choice_tokens, choice_tree, compared_twice};
+ghost use Rattle.df_syntax.specs.BlockMeaning.{mean};
+ghost use Rattle.df_syntax.specs.MeaningExamples.{shifted, shifted_inputs, shifted_results, summed, summed_inputs, summed_results, products, products_inputs, products_results, picks, picks_results, overflows, overflows_inputs, overflows_results};
 ghost use Rattle.df_syntax.specs.Parses.{Parses, IsFront};
 ghost use Rattle.df_syntax.specs.Refusals.{Answer, IsAnswer, NestsWithin};
 ghost use Rattle.df_syntax.specs.TokenList.{TokenList};
@@ -79,4 +81,29 @@ pub fn elseif_is_an_arm()
 /// A comparison takes two operands and no third.
 pub fn comparisons_do_not_chain()
     ensures { (tree : program.Program) → ¬ Parses compared_twice tree }
+{}
+
+/// An element before the first is `miss_elt`.
+pub fn element_before_the_first_is_missing()
+    ensures { mean shifted shifted_inputs ≡ shifted_results }
+{}
+
+/// A fold joins from the lowest index on, so an overflow on the way leaves nothing known of the sum.
+pub fn fold_joins_from_the_lowest_index()
+    ensures { mean summed summed_inputs ≡ summed_results }
+{}
+
+/// A recurrence begins with its first element, and each turn takes the element before its own.
+pub fn recurrence_takes_the_element_before()
+    ensures { mean products products_inputs ≡ products_results }
+{}
+
+/// A scalar takes elements by their index, and one behind the last is `miss_elt`.
+pub fn scalar_takes_elements_by_index()
+    ensures { mean picks shifted_inputs ≡ picks_results }
+{}
+
+/// What is taken off again from a sum that is too large doesn't bring the number back.
+pub fn overflow_does_not_come_back()
+    ensures { mean overflows overflows_inputs ≡ overflows_results }
 {}

@@ -2,7 +2,9 @@
 //! grammar, and the trees that it gives.
 #![tactic(auto)]
 
+pub mod bound;
 pub mod laws;
+pub mod piped;
 pub mod program;
 pub mod symbol;
 pub mod token;

@@ -7,7 +7,7 @@ use Rattle.df_syntax.specs.declared.token.Token.{Token}
 use Rattle.df_syntax.specs.declared.tree.Expr.{Expr}
 use Rattle.df_syntax.specs.declared.tree.Named.{Named}
 use Rattle.df_syntax.specs.declared.tree.Sort.{Sort}
-use Rattle.df_syntax.specs.declared.program.Parameter.{Parameter}
+use Rattle.df_syntax.specs.declared.tree.Parameter.{Parameter}
 use Rattle.df_syntax.specs.TokenClasses.{class, word_code, symbol_code}
 use Rattle.df_syntax.specs.Grammar as g
 use Rattle.df_syntax.specs.Reading.{reads}
