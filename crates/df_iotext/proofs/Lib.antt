@@ -11,3 +11,4 @@ pub mod SomeReading
 pub mod OneSchedule
 pub mod PrintedSchedules
 pub mod SomeSchedule
+pub mod KeyLemmas

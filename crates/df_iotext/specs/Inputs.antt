@@ -3,7 +3,7 @@ use Rattle.std.specs.Prelude.{◌≡◌, ◌≢◌, ◌+◌, ◌<◌, ◌==◌, 
 use Rattle.std.specs.List.{AllZip, list_all, prefix_len, position_or_len, before_first, after_first}
 use Rattle.std.specs.Char.{is_ascii_alphabetic, is_ascii_alphanumeric}
 use Rattle.std.specs.Str.Lines.{lines}
-use Rattle.df_values.specs.Inputs.{HasType, Declaration, IsAsDeclared}
+use Rattle.df_values.specs.Inputs.{HasType, IsAsDeclared}
 use Rattle.df_values.specs.declared.values.Value.{Value}
 use Rattle.df_cells.specs.declared.cells.InputDecl.{InputDecl}
 use Rattle.df_cells.specs.Cells.{declaration_of}

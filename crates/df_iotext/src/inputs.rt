@@ -10,14 +10,13 @@ ghost use Rattle.df_iotext.specs.Readers.{place_of_name, HasGiven, HasPlaces, Is
 ghost use Rattle.df_iotext.specs.declared.inputs.InputAnswer.TheVariants.{Memory as NoMemory};
 
 use crate::assignments::{is_idle, read_assignment};
-use crate::keys::Word;
+use crate::keys::Places;
 use crate::lines::first_line;
 use df_cells::cells::InputDecl;
 use df_values::memory::Memory;
 use df_values::name::Name;
 use df_values::streams::Streams;
 use df_values::values::{Basic, ErrorValue, Value};
-use indexmap::IndexMap;
 use std::alloc::Global;
 
 const MOST_INPUTS: usize = 4_294_967_294;
@@ -47,17 +46,17 @@ impl From<Memory> for InputAnswer {
 
 /// The inputs that are still to be given, each under its name, and what was given for the others.
 #[derive(Drop)]
-struct Reader {
-    open: IndexMap<Name, u32>,
+struct Reader<'a> {
+    open: Places<'a>,
     inputs: Streams,
 }
 
-impl Reader {
+impl<'a> Reader<'a> {
     // Nothing was given. More inputs than can be numbered count as want of memory.
-    fn new(alloc: Global, decls: &[InputDecl]) -> Result<Reader, Memory>
+    fn new(alloc: Global, decls: &'a [InputDecl]) -> Result<Reader<'a>, Memory>
         requires { HaveOwnNames decls.now }
         ensures { IfOk result (λ reader.
-            HasGiven decls.now reader.open.entries reader.inputs.lists (nothing_given decls.now)) }
+            HasGiven decls.now reader.open reader.inputs.lists (nothing_given decls.now)) }
     {
         if decls.len() > MOST_INPUTS {
             return Err(Memory);
@@ -77,14 +76,14 @@ impl Reader {
         number: u32,
     ) -> Result<(), InputAnswer>
         requires state { (given : Given)
-            × HasGiven decls.now self.old.open.entries self.old.inputs.lists given }
+            × HasGiven decls.now self.old.open self.old.inputs.lists given }
         requires short { length line.now ≤ 4294967294 }
         ensures taken { OnOk result ((given : Given)
-            → HasGiven decls.now self.old.open.entries self.old.inputs.lists given
+            → HasGiven decls.now self.old.open self.old.inputs.lists given
             → (after : Given) × (TakesLine decls.now given line.now after
-            × HasGiven decls.now self.new.open.entries self.new.inputs.lists after)) }
+            × HasGiven decls.now self.new.open self.new.inputs.lists after)) }
         ensures refused { IfErr result (λ answer. answer ≢ InputAnswer.Memory
-            → (given : Given) → HasGiven decls.now self.old.open.entries self.old.inputs.lists given
+            → (given : Given) → HasGiven decls.now self.old.open self.old.inputs.lists given
             → RefusesLine decls.now given line.now number answer) }
     {
         if is_idle(line) {
@@ -93,7 +92,7 @@ impl Reader {
         let Some(assignment) = read_assignment(alloc, line)? else {
             return Err(InputAnswer::BadInput(number));
         };
-        let Some(k) = self.open.swap_remove(Word(assignment.name)) else {
+        let Some(k) = self.open.take(assignment.name) else {
             return Err(InputAnswer::ExtraInput(number));
         };
         check_values(&decls[k as usize], &assignment.values, number)?;
@@ -104,13 +103,13 @@ impl Reader {
     // The name of the first input that was not given.
     fn first_missing(&self, decls: &[InputDecl]) -> Option<Name>
         ensures some { IfSome result (λ name. (k : ℕ) × ((decl : input_decl.InputDecl)
-            × (IsFirstPlaced decls.now self.now.open.entries k decl × (decl.name ≡ name)))) }
+            × (IsFirstPlaced decls.now self.now.open k decl × (decl.name ≡ name)))) }
         ensures none { IfNone result ((k : ℕ) (decl : input_decl.InputDecl)
             → slice_get decls.now k ≡ Some decl
-            → place_of_name self.now.open.entries decl.name ≡ None) }
+            → place_of_name self.now.open decl.name ≡ None) }
     {
         for decl in decls {
-            if self.open.contains_key(&decl.name) {
+            if self.open.has(decl.name.bytes()) {
                 return Some(decl.name);
             }
         }
@@ -119,14 +118,14 @@ impl Reader {
 }
 
 // The number of each input under its name.
-fn all_places(alloc: Global, decls: &[InputDecl]) -> Result<IndexMap<Name, u32>, Memory>
+fn all_places<'a>(alloc: Global, decls: &'a [InputDecl]) -> Result<Places<'a>, Memory>
     requires names { HaveOwnNames decls.now }
     requires few { length decls.now ≤ 4294967294 }
-    ensures { IfOk result (λ places. HasPlaces decls.now places.entries (length decls.now)) }
+    ensures { IfOk result (λ places. HasPlaces decls.now places (length decls.now)) }
 {
-    let mut open = IndexMap::new(alloc);
+    let mut open = Places::new(alloc);
     for (k, decl) in decls.iter().enumerate() {
-        open.insert(decl.name, k as u32)?;
+        open.put(decl.name.bytes(), k as u32)?;
     }
     Ok(open)
 }

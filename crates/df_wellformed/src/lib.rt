@@ -1,7 +1,7 @@
 //! Whether cells are well-formed: seven rules, asked in order, each of each cell.
 //!
 //! Cells come from strangers. No rule recurses, and each takes time at most n log n, where n counts the cells, their ports,
-//! destinations and runs; but the names of inputs are kept in a hashed set, and names that are chosen to collide take longer.
+//! destinations and runs, whatever the names of inputs are: these are kept in the order of their bytes.
 #![tactic(auto)]
 
 pub mod answers;
