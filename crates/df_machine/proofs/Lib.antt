@@ -10,13 +10,8 @@ pub mod ArcInvariant
 pub mod Scans
 pub mod Room
 pub mod Outputs
-pub mod Agree
-pub mod Traces
-pub mod Determinate
+pub mod Enabled
 pub mod Fed
-pub mod Delivers
-pub mod Labels
-pub mod LabelResults
 pub mod Steps
 pub mod Drained
 pub mod ThreeCellsRun

@@ -1,4 +1,3 @@
-pub mod Kinds
 pub mod CanRun
 pub mod Flights
 pub mod States
@@ -6,7 +5,6 @@ pub mod Events
 pub mod Runs
 pub mod Reports
 pub mod Sound
-pub mod Histories
 pub mod Laws
 pub mod Seen
 pub mod Turns
