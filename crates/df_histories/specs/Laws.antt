@@ -1,0 +1,50 @@
+-- The laws of the histories of every run of well-formed cells, for all inputs and under every list of choices.
+use Rattle.std.specs.Prelude.{◌≡◌, ℕ, ◌-◌, List, [], get_or}
+use Rattle.df_values.specs.declared.values.Value.{Value}
+use Rattle.df_cells.specs.declared.cells.Cell.{Cell}
+use Rattle.df_cells.specs.declared.kinds.Kind.TheVariants as kind
+use Rattle.df_values.specs.Inputs.{AreValid}
+use Rattle.df_cells.specs.Cells.{cell_at, declarations}
+use Rattle.df_labels.specs.Labels.{Labels, LabelsMeet}
+use Rattle.df_histories.specs.Reached.{AgreesWith}
+use Rattle.df_cells.specs.WellFormed.{WellFormed}
+use Rattle.df_labels.specs.Histories.{Histories, took, IsPrefix, Comparable, Consistent, Meets}
+use Rattle.df_machine.specs.Events.{chosen_event}
+use Rattle.df_machine.specs.Runs.{after, IsClash}
+use Rattle.df_histories.specs.Traces.{Traced, histories}
+
+-- no event is a clash
+abbrev pub NeverClashes : Type 0
+NeverClashes = (cells : List Cell) (inputs : List (List Value)) (choices : List ℕ) (choice : ℕ) → WellFormed cells
+    → IsClash (after cells inputs choices) (chosen_event cells (after cells inputs choices) choice) → ⊥
+
+-- of the values of each result under two lists of choices, one is a prefix of the other
+abbrev pub IsDeterminate : Type 0
+IsDeterminate = (cells : List Cell) (inputs : List (List Value)) (choices others : List ℕ) (k : ℕ) → WellFormed cells
+    → Comparable (get_or (after cells inputs choices).results k []) (get_or (after cells inputs others).results k [])
+
+-- what each cell takes in a run, and any histories that obey the equations of the arcs, agree
+abbrev pub FollowsEquations : Type 0
+FollowsEquations = (cells : List Cell) (inputs : List (List Value)) (h : Histories) (choices : List ℕ) → WellFormed cells → Consistent cells inputs h
+    → (c : ℕ) → Comparable (histories cells inputs choices c) (h c)
+
+-- on each arc, the values given so far are those taken so far and then what is on the way
+abbrev pub AccountsForValues : Type 0
+AccountsForValues = (cells : List Cell) (inputs : List (List Value)) (choices : List ℕ) → WellFormed cells
+    → Traced cells inputs (after cells inputs choices) (histories cells inputs choices)
+
+-- what each cell takes in a run is a prefix of its history, in histories that meet the cells and inputs
+abbrev pub FollowsHistories : Type 0
+FollowsHistories = (cells : List Cell) (inputs : List (List Value)) (h : Histories) (choices : List ℕ) → WellFormed cells → Meets cells inputs h
+    → (c : ℕ) → IsPrefix (histories cells inputs choices c) (h c)
+
+-- each result is a prefix of what its OUT takes in them
+abbrev pub ResultsFollowHistories : Type 0
+ResultsFollowHistories = (cells : List Cell) (inputs : List (List Value)) (h : Histories) (choices : List ℕ) → WellFormed cells → Meets cells inputs h
+    → (c k m : ℕ) → (cell_at cells c).kind ≡ kind.Out k m
+    → IsPrefix (get_or (after cells inputs choices).results (k - 1) []) (took 0 (h c))
+
+-- a run agrees with all labels that meet the cells and inputs
+abbrev pub FollowsLabels : Type 0
+FollowsLabels = (cells : List Cell) (inputs : List (List Value)) (labels : Labels) (choices : List ℕ) → WellFormed cells → AreValid (declarations cells) inputs
+    → LabelsMeet cells inputs labels → AgreesWith (record { cells = cells; inputs = inputs; state = after cells inputs choices }) labels

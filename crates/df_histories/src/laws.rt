@@ -1,0 +1,37 @@
+//! What holds of the histories of every run of well-formed cells, for all inputs and all choices.
+ghost use Rattle.df_histories.specs.Laws.{NeverClashes, IsDeterminate, FollowsEquations, AccountsForValues, FollowsHistories, ResultsFollowHistories, FollowsLabels};
+
+/// No operand ever comes to a place that is not empty.
+pub fn never_clashes()
+    ensures { NeverClashes }
+{}
+
+/// The results do not depend on the choices, as far as they have come.
+pub fn is_determinate()
+    ensures { IsDeterminate }
+{}
+
+/// A run agrees with any histories that obey the equations of the arcs.
+pub fn follows_equations()
+    ensures { FollowsEquations }
+{}
+
+/// The values given on an arc are those taken, and then what is on the way.
+pub fn accounts_for_values()
+    ensures { AccountsForValues }
+{}
+
+/// What each cell takes in a run is a prefix of its history, in all histories that meet the cells and inputs.
+pub fn follows_histories()
+    ensures { FollowsHistories }
+{}
+
+/// Each result is a prefix of what its output takes in them.
+pub fn results_follow_histories()
+    ensures { ResultsFollowHistories }
+{}
+
+/// A run agrees with all labels that meet the cells and inputs: firings, values on each arc, and results.
+pub fn follows_labels()
+    ensures { FollowsLabels }
+{}
