@@ -1,0 +1,9 @@
+pub mod Answers
+pub mod Demands
+pub mod Found
+pub mod Keys
+pub mod Rows
+pub mod Scopes
+pub mod Sorts
+pub mod Sources
+pub mod Types
