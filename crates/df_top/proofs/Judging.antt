@@ -1,8 +1,7 @@
 -- The verdict on texts that are judged one after another.
 use Rattle.std.proofs.Common.{◌≡◌, List, ℕ, Result, Ok, Err, refl, sym, subst}
-use Rattle.df_top.specs.Judged.{GivesRead, texts_meant, GivesMeaning, StopsAs, Finds}
-use Rattle.df_top.specs.Verdicts.{Verdict, Absent, Refused, Texts, AfterRead, AfterText}
-use Rattle.df_top.specs.declared.judge.TextsRead.{TextsRead}
+use Rattle.df_top.specs.Judged.{GivesRead, GivesMeaning, StopsAs, Finds}
+use Rattle.df_top.specs.Verdicts.{Verdict, Absent, Refused, AfterRead, AfterText}
 use Rattle.df_top.specs.declared.plan.Task.{Task}
 use Rattle.df_top.specs.declared.stop.Stop.{Stop}
 use Rattle.df_top.specs.declared.stop.Stop.TheVariants as stop
@@ -24,16 +23,16 @@ refused_behind Reads next y stop.Memory read found = tt
 -- ---- the reads
 
 -- what isn't given decides
-pub barred : (read : Result Texts Verdict) (next : Verdict → Texts → Type 0) (why : Stop) → GivesRead texts_meant (Err why) read → StopsAs (λ v. AfterRead read v (next v)) why
-barred read next (stop.Refused line) is = subst (λ r. AfterRead r (Refused line) (next (Refused line))) (sym is) refl
-barred read next stop.ReadFault is = tt
-barred read next stop.Memory is = tt
+pub barred : {X Y : Type 0} (meant : X → Y) (read : Result Y Verdict) (next : Verdict → Y → Type 0) (why : Stop) → GivesRead meant (Err why) read → StopsAs (λ v. AfterRead read v (next v)) why
+barred meant read next (stop.Refused line) is = subst (λ r. AfterRead r (Refused line) (next (Refused line))) (sym is) refl
+barred meant read next stop.ReadFault is = tt
+barred meant read next stop.Memory is = tt
 
 -- a file that isn't there leaves one verdict
-pub absent : (read : Result Texts Verdict) (next : Verdict → Texts → Type 0) → read ≡ Err Absent → AfterRead read Absent (next Absent)
+pub absent : {Y : Type 0} (read : Result Y Verdict) (next : Verdict → Y → Type 0) → read ≡ Err Absent → AfterRead read Absent (next Absent)
 absent read next is = subst (λ r. AfterRead r Absent (next Absent)) (sym is) refl
 
 -- where the texts were read, what is found of them is found of the files
-pub found_in : (read : Result Texts Verdict) (next : Verdict → Texts → Type 0) (texts : TextsRead) (found : Result Task Stop) → read ≡ Ok (texts_meant texts)
-    → Finds (λ v. next v (texts_meant texts)) found → Finds (λ v. AfterRead read v (next v)) found
-found_in read next texts found is finds = subst (λ r. Finds (λ v. AfterRead r v (next v)) found) (sym is) finds
+pub found_in : {X Y : Type 0} (meant : X → Y) (read : Result Y Verdict) (next : Verdict → Y → Type 0) (texts : X) (found : Result Task Stop) → read ≡ Ok (meant texts)
+    → Finds (λ v. next v (meant texts)) found → Finds (λ v. AfterRead read v (next v)) found
+found_in meant read next texts found is finds = subst (λ r. Finds (λ v. AfterRead r v (next v)) found) (sym is) finds

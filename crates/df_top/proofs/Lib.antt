@@ -10,3 +10,6 @@ pub mod ReportLines
 pub mod RunReports
 pub mod ReadyTasks
 pub mod CellReadings
+pub mod DualReadings
+pub mod Buffers
+pub mod ProgramReadings

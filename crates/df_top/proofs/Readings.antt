@@ -10,13 +10,14 @@ use Rattle.df_iotext.specs.Inputs.{ReadsInputs, HaveOwnNames}
 use Rattle.df_iotext.specs.Schedules.{ReadsSchedule}
 use Rattle.df_iotext.specs.Laws.{InputsHaveOneReading, InputsHaveReadings, SchedulesHaveOneReading, SchedulesHaveReadings}
 use Rattle.df_iotext.specs.declared.inputs.InputAnswer.{InputAnswer}
-use Rattle.df_top.specs.Laws.{CellFilesHaveOneReading, CellFilesHaveReadings, HasOneVerdict, HasSomeVerdict}
+use Rattle.df_top.specs.Laws.{CellFilesHaveOneReading, CellFilesHaveReadings, DualFilesHaveOneReading, DualFilesHaveReadings, ProgramsHaveOneReading, HasOneVerdict, HasSomeVerdict}
 use Rattle.df_top.specs.Lines.{refusal}
 use Rattle.df_top.specs.Meanings.{decls_of}
-use Rattle.df_top.specs.Orders.{Go, Run}
+use Rattle.df_top.specs.Orders.{Check, Go, Run, Verify}
+use Rattle.df_top.specs.ProgramTexts.{ReadsProgram}
 use Rattle.df_top.specs.Sources.{ReadsSource}
-use Rattle.df_top.specs.Texts.{input_reason, and_word, ReadsInputText, ReadsScheduleText, ReadsCellFile}
-use Rattle.df_top.specs.Verdicts.{Verdict, Refused, Accepted, Task, CompileAndRun, RunCells, Texts, AfterText, AfterRead, Goes, JudgesRun, JudgesGo, JudgesCells, texts_at, source_limit, cells_limit}
+use Rattle.df_top.specs.Texts.{input_reason, and_word, ReadsInputText, ReadsScheduleText, ReadsCellFile, ReadsDualFile}
+use Rattle.df_top.specs.Verdicts.{Verdict, Refused, Accepted, Task, TellRight, CompileAndRun, RunCells, TellLeast, AfterText, AfterRead, Goes, JudgesRun, JudgesGo, JudgesCells, JudgesDual, JudgesProgram, text_at, texts_at, pair_at, source_limit, cells_limit}
 use Rattle.df_top.specs.declared.program.Program.{Program}
 use Rattle.df_top.proofs.OwnNames.{cells_names, one_name}
 use Rattle.df_top.proofs.SourceTexts.{one_source}
@@ -71,7 +72,7 @@ one_after_text : {A : Type 0} (Reads : Result A (List ℕ) → Type 0) (v w : Ve
 one_after_text Reads v w next same one p q =
     one_after_goes Reads p.read v w next one p.reads p.goes (subst (λ r. Goes r w (next w)) (sym (same p.read q.read p.reads q.reads)) q.goes)
 
-one_after_read : (read : Result Texts Verdict) (v w : Verdict) (next : Verdict → Texts → Type 0) → ((texts : Texts) → next v texts → next w texts → v ≡ w)
+one_after_read : {A : Type 0} (read : Result A Verdict) (v w : Verdict) (next : Verdict → A → Type 0) → ((texts : A) → next v texts → next w texts → v ≡ w)
     → AfterRead read v (next v) → AfterRead read w (next w) → v ≡ w
 one_after_read (Ok texts) v w next one p q = one texts p q
 one_after_read (Err barred) v w next one p q = p ∙ sym q
@@ -112,13 +113,30 @@ one_file one_input one_schedule one_cells cells input schedule v w =
     one_after_text (ReadsCellFile cells) v w (cells_asked input schedule) (one_cells cells)
     (λ list read. one_run one_input one_schedule (inputs_of list) (cells_names list read.1) input schedule (λ inputs choices. RunCells list inputs choices) v w)
 
-pub one_verdict : InputsHaveOneReading → SchedulesHaveOneReading → CellFilesHaveOneReading → HasOneVerdict
-one_verdict one_input one_schedule one_cells (Go source input schedule cells dual) holds v w =
+-- what is asked once the flow was read, and once the cells were
+abbrev told_of : List Cell → Verdict → List ℕ → Type 0
+told_of cells v flow = v ≡ Accepted (TellLeast cells)
+
+abbrev dual_asked : List ℕ → Verdict → List Cell → Type 0
+dual_asked dual v cells = AfterText (ReadsDualFile cells dual) v (told_of cells v)
+
+one_pair : CellFilesHaveOneReading → DualFilesHaveOneReading → (cells dual : List ℕ) (v w : Verdict) → JudgesDual cells dual v → JudgesDual cells dual w → v ≡ w
+one_pair one_cells one_dual cells dual v w =
+    one_after_text (ReadsCellFile cells) v w (dual_asked dual) (one_cells cells)
+    (λ list read. one_after_text (ReadsDualFile list dual) v w (told_of list) (λ r s. one_dual list dual r s read.1) (λ flow certified p q. p ∙ sym q))
+
+pub one_verdict : InputsHaveOneReading → SchedulesHaveOneReading → CellFilesHaveOneReading → DualFilesHaveOneReading → ProgramsHaveOneReading → HasOneVerdict
+one_verdict one_input one_schedule one_cells one_dual one_program (Check source) holds v w =
+    one_after_read (text_at holds source source_limit (codes "source")) v w (λ u text. JudgesProgram text u)
+    (λ text. one_after_text (ReadsProgram text) v w (λ u tree. u ≡ Accepted TellRight) (one_program text) (λ tree read p q. p ∙ sym q))
+one_verdict one_input one_schedule one_cells one_dual one_program (Go source input schedule cells dual) holds v w =
     one_after_read (texts_at holds source source_limit (codes "source") input schedule) v w (λ u texts. JudgesGo texts.first texts.input texts.schedule cells dual u)
     (λ texts. one_go one_input one_schedule texts.first texts.input texts.schedule cells dual v w)
-one_verdict one_input one_schedule one_cells (Run cells input schedule) holds v w =
+one_verdict one_input one_schedule one_cells one_dual one_program (Run cells input schedule) holds v w =
     one_after_read (texts_at holds cells cells_limit (codes "cells") input schedule) v w (λ u texts. JudgesCells texts.first texts.input texts.schedule u)
     (λ texts. one_file one_input one_schedule one_cells texts.first texts.input texts.schedule v w)
+one_verdict one_input one_schedule one_cells one_dual one_program (Verify cells dual) holds v w =
+    one_after_read (pair_at holds cells dual) v w (λ u texts. JudgesDual texts.cells texts.dual u) (λ texts. one_pair one_cells one_dual texts.cells texts.dual v w)
 
 -- ---- there is a verdict
 
@@ -150,7 +168,7 @@ some_after_text : {A : Type 0} (Reads : Result A (List ℕ) → Type 0) (next : 
 some_after_text Reads next reads some none =
     reads (λ r read. some_after_goes Reads r next some read (λ v goes. none v (record { read = r; reads = read; goes = goes })))
 
-some_after_read : (read : Result Texts Verdict) (next : Verdict → Texts → Type 0) → ((texts : Texts) → ¬ ((v : Verdict) → ¬ next v texts)) → ¬ ((v : Verdict) → ¬ AfterRead read v (next v))
+some_after_read : {A : Type 0} (read : Result A Verdict) (next : Verdict → A → Type 0) → ((texts : A) → ¬ ((v : Verdict) → ¬ next v texts)) → ¬ ((v : Verdict) → ¬ AfterRead read v (next v))
 some_after_read (Ok texts) next some none = some texts none
 some_after_read (Err barred) next some none = none barred refl
 
@@ -161,12 +179,17 @@ some_run some_input some_schedule decls input schedule task =
     (λ inputs read. some_after_text (ReadsScheduleText schedule) (last_asked task inputs) (some_schedule_reading some_schedule schedule)
     (λ choices chosen none. none (Accepted (task inputs choices)) refl))
 
-pub some_verdict : InputsHaveReadings → SchedulesHaveReadings → CellFilesHaveReadings → HasSomeVerdict
-some_verdict some_input some_schedule some_cells (Go source input schedule cells dual) holds =
+pub some_verdict : InputsHaveReadings → SchedulesHaveReadings → CellFilesHaveReadings → DualFilesHaveReadings → HasSomeVerdict
+some_verdict some_input some_schedule some_cells some_dual (Check source) holds needs = absurd needs
+some_verdict some_input some_schedule some_cells some_dual (Go source input schedule cells dual) holds needs =
     some_after_read (texts_at holds source source_limit (codes "source") input schedule) (λ u texts. JudgesGo texts.first texts.input texts.schedule cells dual u)
     (λ texts. some_after_text (ReadsSource texts.first) (program_asked texts.input texts.schedule cells dual) (some_source_reading texts.first)
     (λ program read. some_run some_input some_schedule (decls_of program) texts.input texts.schedule (λ inputs choices. CompileAndRun program inputs choices cells dual)))
-some_verdict some_input some_schedule some_cells (Run cells input schedule) holds =
+some_verdict some_input some_schedule some_cells some_dual (Run cells input schedule) holds needs =
     some_after_read (texts_at holds cells cells_limit (codes "cells") input schedule) (λ u texts. JudgesCells texts.first texts.input texts.schedule u)
     (λ texts. some_after_text (ReadsCellFile texts.first) (cells_asked texts.input texts.schedule) (some_cells texts.first)
     (λ list read. some_run some_input some_schedule (inputs_of list) texts.input texts.schedule (λ inputs choices. RunCells list inputs choices)))
+some_verdict some_input some_schedule some_cells some_dual (Verify cells dual) holds needs =
+    some_after_read (pair_at holds cells dual) (λ u texts. JudgesDual texts.cells texts.dual u)
+    (λ texts. some_after_text (ReadsCellFile texts.cells) (dual_asked texts.dual) (some_cells texts.cells)
+    (λ list read. some_after_text (ReadsDualFile list texts.dual) (told_of list) (some_dual list texts.dual read.1) (λ flow certified none. none (Accepted (TellLeast list)) refl)))

@@ -1,5 +1,5 @@
 -- What the cells of a program promise, and what a task may therefore write.
-use Rattle.std.specs.Prelude.{◌≡◌, ℕ, List, [], ◌∷◌, length, get_or, codes}
+use Rattle.std.specs.Prelude.{◌≡◌, ℕ, List, [], ◌∷◌, length, get_or, true, codes}
 use Rattle.df_values.specs.declared.values.Value.{Value}
 use Rattle.df_values.specs.Inputs.{AreValid}
 use Rattle.df_cells.specs.declared.cells.Cell.{Cell}
@@ -7,17 +7,20 @@ use Rattle.df_cells.specs.declared.schedules.Schedule.{Schedule}
 use Rattle.df_cells.specs.WellFormed.{WellFormed}
 use Rattle.df_celltext.specs.CellText.{cell_text}
 use Rattle.df_machine.specs.Events.{chosen_event}
-use Rattle.df_machine.specs.Histories.{IsPrefix}
+use Rattle.df_labels.specs.Histories.{IsPrefix}
 use Rattle.df_machine.specs.Reports.{Report, report}
 use Rattle.df_machine.specs.Runs.{after, IsClash}
 use Rattle.df_cells.specs.Schedules.{choices_of}
 use Rattle.df_machine.specs.ThreeCells.{three_cells}
 use Rattle.df_top.specs.declared.program.Program.{Program}
 use Rattle.df_top.specs.Meanings.{inputs_of, mean}
-use Rattle.df_top.specs.Duals.{dual_text, unit_flow}
-use Rattle.df_top.specs.Reports.{report_text}
+use Rattle.df_dual_check.specs.DualTexts.{dual_text}
+use Rattle.df_stages.specs.Skeletons.{arcs}
 use Rattle.df_top.specs.Effects.{Effect}
-use Rattle.df_top.specs.Verdicts.{Task, CompileAndRun, RunCells}
+use Rattle.df_top.specs.Verdicts.{Task, TellRight, CompileAndRun, RunCells, TellLeast}
+use Rattle.df_stages.specs.Balance.{IsBalanced, IsLeast}
+use Rattle.df_top.specs.Reports.{report_text, least_text}
+use Rattle.df_top.specs.Lines.{line}
 
 -- For all valid inputs and every list of choices, of any length, no event on the way is a clash, and
 -- each result is a prefix of the same result of the program's meaning.
@@ -35,18 +38,26 @@ pub record IsCompiled (program : Program) (cells : List Cell) : Type 0 where
   pub well_formed : WellFormed cells
   pub faithful : IsFaithful program cells
 
+-- one unit on each of the two arcs
+abbrev pub unit_flow : List ℕ
+unit_flow = 1 ∷ 1 ∷ []
+
 -- the report of a run, and whether it is drained
 abbrev pub run_of : List Cell → List (List Value) → Schedule → Report
 run_of cells inputs schedule = report cells inputs (choices_of schedule)
 
 -- What may be written for a task. One list of cells stands for the files, the text and the status.
 abbrev pub MayDo : Task → Effect → Type 0
+MayDo TellRight effect = effect ≡ record { files = []; text = line (codes "ok"); is_done = true }
 MayDo (CompileAndRun program inputs schedule cells_name dual_name) effect =
     (cells : List Cell) × IsCompiled program cells
     × (effect ≡ record {
-      files = (cells_name, cell_text cells) ∷ (dual_name, dual_text unit_flow) ∷ [];
+      files = (cells_name, cell_text cells) ∷ (dual_name, dual_text (arcs cells) unit_flow) ∷ [];
       text = report_text (run_of cells inputs schedule);
       is_done = (run_of cells inputs schedule).drained;
     })
 MayDo (RunCells cells inputs schedule) effect =
     effect ≡ record { files = []; text = report_text (run_of cells inputs schedule); is_done = (run_of cells inputs schedule).drained }
+-- it is told only of cells that are balanced, and whose buffers are least
+MayDo (TellLeast cells) effect =
+    IsBalanced cells × IsLeast cells × (effect ≡ record { files = []; text = least_text cells; is_done = true })

@@ -4,8 +4,9 @@ use Rattle.df_io.specs.Told.{Holds}
 use Rattle.df_io.specs.Faults.{Faults, Rises}
 use Rattle.df_top.specs.Orders.{Order}
 use Rattle.df_top.specs.Plans.{task_meant}
-use Rattle.df_top.specs.Verdicts.{Verdict, Absent, Refused, Accepted, Texts, Judges}
-use Rattle.df_top.specs.declared.judge.TextsRead.{TextsRead}
+use Rattle.df_top.specs.Verdicts.{Verdict, Absent, Refused, Accepted, Texts, Pair, Judges}
+use Rattle.df_top.specs.declared.reads.TextsRead.{TextsRead}
+use Rattle.df_top.specs.declared.reads.PairRead.{PairRead}
 use Rattle.df_top.specs.declared.plan.Task.{Task}
 use Rattle.df_top.specs.declared.stop.Stop.{Stop}
 use Rattle.df_top.specs.declared.stop.Stop.TheVariants as stop
@@ -46,3 +47,6 @@ GivesMeaning meant (Err stop.Memory) Reads = Unit {0}
 
 abbrev pub texts_meant : TextsRead → Texts
 texts_meant texts = record { first = texts.first; input = texts.input; schedule = texts.schedule }
+
+abbrev pub pair_meant : PairRead → Pair
+pair_meant texts = record { cells = texts.cells; dual = texts.dual }

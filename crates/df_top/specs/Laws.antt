@@ -4,10 +4,13 @@ use Rattle.df_io.specs.Told.{Holds}
 use Rattle.df_cells.specs.declared.cells.Cell.{Cell}
 use Rattle.df_machine.specs.ThreeCells.{three_cells}
 use Rattle.df_top.specs.Compiled.{IsFaithful}
-use Rattle.df_top.specs.Orders.{Order}
+use Rattle.df_top.specs.Orders.{Order, Check}
 use Rattle.df_top.specs.Ready.{IsWithin}
-use Rattle.df_top.specs.Texts.{ReadsCellFile}
+use Rattle.df_top.specs.Texts.{ReadsCellFile, ReadsDualFile}
 use Rattle.df_top.specs.Verdicts.{Verdict, Judges}
+use Rattle.df_cells.specs.WellFormed.{WellFormed}
+use Rattle.df_syntax.specs.declared.program.Program.{Program as Tree}
+use Rattle.df_top.specs.ProgramTexts.{ReadsProgram}
 use Rattle.df_top.specs.declared.program.Program.{Program}
 
 -- the cells of each program are faithful to it
@@ -18,9 +21,14 @@ AlwaysFaithful = (program : Program) → IsWithin program → IsFaithful program
 abbrev pub HasOneVerdict : Type 0
 HasOneVerdict = (order : Order) (holds : Holds) (v w : Verdict) → Judges order holds v → Judges order holds w → v ≡ w
 
+-- the command is none whose text is a source of any form
+abbrev pub NeedsNoTokens : Order → Type 0
+NeedsNoTokens (Check source) = ⊥
+NeedsNoTokens _ = Unit {0}
+
 -- it can't be that there is none
 abbrev pub HasSomeVerdict : Type 0
-HasSomeVerdict = (order : Order) (holds : Holds) → ¬ ((v : Verdict) → ¬ Judges order holds v)
+HasSomeVerdict = (order : Order) (holds : Holds) → NeedsNoTokens order → ¬ ((v : Verdict) → ¬ Judges order holds v)
 
 -- the text of a cell file has one reading at most
 abbrev pub CellFilesHaveOneReading : Type 0
@@ -29,3 +37,16 @@ CellFilesHaveOneReading = (text : List ℕ) (one other : Result (List Cell) (Lis
 -- there is no text without a reading
 abbrev pub CellFilesHaveReadings : Type 0
 CellFilesHaveReadings = (text : List ℕ) → ¬ ((reading : Result (List Cell) (List ℕ)) → ¬ ReadsCellFile text reading)
+
+-- the text of a dual file has one reading at most for well-formed cells
+abbrev pub DualFilesHaveOneReading : Type 0
+DualFilesHaveOneReading = (cells : List Cell) (text : List ℕ) (one other : Result (List ℕ) (List ℕ)) → WellFormed cells
+    → ReadsDualFile cells text one → ReadsDualFile cells text other → one ≡ other
+
+-- there is no text without a reading
+abbrev pub DualFilesHaveReadings : Type 0
+DualFilesHaveReadings = (cells : List Cell) (text : List ℕ) → WellFormed cells → ¬ ((reading : Result (List ℕ) (List ℕ)) → ¬ ReadsDualFile cells text reading)
+
+-- the text of a source has one reading at most
+abbrev pub ProgramsHaveOneReading : Type 0
+ProgramsHaveOneReading = (text : List ℕ) (one other : Result Tree (List ℕ)) → ReadsProgram text one → ReadsProgram text other → one ≡ other

@@ -3,7 +3,6 @@ pub mod Sources
 pub mod Texts
 pub mod Meanings
 pub mod Compiled
-pub mod Duals
 pub mod Reports
 pub mod Orders
 pub mod Words
@@ -18,4 +17,4 @@ pub mod Scanned
 pub mod Ready
 pub mod Chain
 pub mod Laws
-pub mod DualFlows
+pub mod ProgramTexts

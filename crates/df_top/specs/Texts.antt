@@ -1,6 +1,6 @@
 -- What the reading of each text gives: what it means, or the line of its refusal.
 use Rattle.std.specs.Prelude.{◌≡◌, ◌⊎◌, ℕ, List, [], ◌++◌, codes, Result, Ok, Err}
-use Rattle.std.specs.Fmt.{decimal}
+use Rattle.std.specs.Fmt.{decimal, signed_decimal}
 use Rattle.df_values.specs.declared.values.Value.{Value}
 use Rattle.df_cells.specs.declared.cells.Cell.{Cell}
 use Rattle.df_cells.specs.declared.cells.InputDecl.{InputDecl}
@@ -15,6 +15,12 @@ use Rattle.df_iotext.specs.declared.inputs.InputAnswer.TheVariants as input
 use Rattle.df_wellformed.specs.declared.answers.Rule.{Rule}
 use Rattle.df_wellformed.specs.declared.answers.Rule.TheVariants as rule
 use Rattle.df_wellformed.specs.Rules.{FailsFirst}
+use Rattle.df_dual_check.specs.declared.answer.DualAnswer.{DualAnswer}
+use Rattle.df_dual_check.specs.declared.answer.DualAnswer.TheVariants as dual
+use Rattle.df_dual_check.specs.Checked.{IsCertified, ShownWrong}
+use Rattle.df_dual_check.specs.DualTexts.{IsDualText, IsFirstWrong}
+use Rattle.df_stages.specs.Skeletons.{arcs}
+use Rattle.df_cells.specs.declared.cells.Dest.{Dest}
 use Rattle.df_top.specs.Lines.{refusal}
 
 -- ---- inputs
@@ -70,3 +76,34 @@ pub record IsIllFormed (text line : List ℕ) : Type 0 where
 abbrev pub ReadsCellFile : List ℕ → Result (List Cell) (List ℕ) → Type 0
 ReadsCellFile text (Ok cells) = IsTextOf text cells × WellFormed cells
 ReadsCellFile text (Err line) = IsWrongText text line ⊎ IsIllFormed text line
+
+-- ---- dual files
+
+-- a port, as `CELL.PORT`
+abbrev pub port_word : Dest → List ℕ
+port_word d = decimal d.cell.0 ++ (codes "." ++ decimal d.port.0)
+
+-- what is wrong with the stages or with the flow
+abbrev pub dual_reason : DualAnswer → List ℕ
+dual_reason (dual.NotBalanced port) = codes "NotBalanced" ++ and_word (port_word port)
+dual_reason (dual.BadFlow cell) = codes "BadFlow" ++ and_word (decimal cell.0)
+dual_reason (dual.NotEqual value buffers) = codes "NotEqual" ++ (and_word (signed_decimal value) ++ and_word (decimal buffers))
+
+-- the text is that of no flow of these cells, and this is its first wrong line
+pub record IsWrongDual (cells : List Cell) (text line : List ℕ) : Type 0 where
+  pub number : ℕ
+  pub says : line ≡ refusal (codes "BadDual" ++ and_word (decimal number))
+  pub first : IsFirstWrong (arcs cells) text number
+
+-- the text is that of a flow which doesn't certify the cells, and this is the first that is wrong
+pub record IsNoCertificate (cells : List Cell) (text line : List ℕ) : Type 0 where
+  pub flow : List ℕ
+  pub read : IsDualText (arcs cells) text flow
+  pub answer : DualAnswer
+  pub says : line ≡ refusal (dual_reason answer)
+  pub first : ShownWrong cells flow answer
+
+-- what is read for these cells: a flow that certifies them
+abbrev pub ReadsDualFile : List Cell → List ℕ → Result (List ℕ) (List ℕ) → Type 0
+ReadsDualFile cells text (Ok flow) = IsDualText (arcs cells) text flow × IsCertified cells flow
+ReadsDualFile cells text (Err line) = IsWrongDual cells text line ⊎ IsNoCertificate cells text line

@@ -8,17 +8,20 @@ use Rattle.df_cells.specs.declared.cells.InputDecl.{InputDecl}
 use Rattle.df_cells.specs.declared.schedules.Schedule.{Schedule}
 use Rattle.df_cells.specs.Cells.{inputs_of}
 use Rattle.df_top.specs.declared.program.Program.{Program}
-use Rattle.df_top.specs.Orders.{Order, Go, Run}
+use Rattle.df_top.specs.Orders.{Order, Check, Go, Run, Verify}
 use Rattle.df_top.specs.Lines.{refusal}
 use Rattle.df_top.specs.Meanings.{decls_of}
+use Rattle.df_top.specs.ProgramTexts.{ReadsProgram}
 use Rattle.df_top.specs.Sources.{ReadsSource}
-use Rattle.df_top.specs.Texts.{ReadsInputText, ReadsScheduleText, ReadsCellFile}
+use Rattle.df_top.specs.Texts.{ReadsInputText, ReadsScheduleText, ReadsCellFile, ReadsDualFile}
 
--- What the texts of a command ask for, once none of them is refused: that a program is compiled and its cells are run and written,
--- or that cells are run.
+-- What the texts of a command ask for, once none of them is refused: that a source is told to be right, that a program is compiled and its cells are run and written,
+-- that cells are run, or that it is told of cells that their buffers are balanced and least.
 pub data Task : Type 0 where
+  TellRight : Task
   CompileAndRun : (program : Program) (inputs : List (List Value)) (schedule : Schedule) (cells dual : List ℕ) → Task
   RunCells : (cells : List Cell) (inputs : List (List Value)) (schedule : Schedule) → Task
+  TellLeast : (cells : List Cell) → Task
 
 -- A file to be read isn't there, a text is refused by this line, or the task is to be done.
 pub data Verdict : Type 0 where
@@ -28,7 +31,7 @@ pub data Verdict : Type 0 where
 
 -- ---- the reads
 
--- the most bytes of a source, of an input or a schedule, and of a cell file
+-- the most bytes of a source, of an input or a schedule, of a cell file, and of a dual file
 abbrev pub source_limit : ℕ
 source_limit = 1_048_576
 
@@ -37,6 +40,9 @@ text_limit = 16_777_216
 
 abbrev pub cells_limit : ℕ
 cells_limit = 33_554_432
+
+abbrev pub dual_limit : ℕ
+dual_limit = 8_388_608
 
 -- the text of a file, unless it isn't there or is over its limit
 abbrev pub within : Option (List ℕ) → ℕ → List ℕ → Result (List ℕ) Verdict
@@ -47,7 +53,7 @@ within (Some text) limit label =
 unfoldable pub text_at : Holds → List ℕ → ℕ → List ℕ → Result (List ℕ) Verdict
 text_at holds name limit label = within (table.get holds name) limit label
 
--- the texts of a command: a source or cells, an input and a schedule
+-- the texts of a run: a source or cells, an input and a schedule
 pub record Texts : Type 0 where
   pub first : List ℕ
   pub input : List ℕ
@@ -65,8 +71,21 @@ abbrev pub texts_at : Holds → (first : List ℕ) → (limit : ℕ) → (label 
 texts_at holds first limit label input schedule =
     all_three (text_at holds first limit label) (text_at holds input text_limit (codes "input")) (text_at holds schedule text_limit (codes "schedule"))
 
+-- cells and a flow
+pub record Pair : Type 0 where
+  pub cells : List ℕ
+  pub dual : List ℕ
+
+abbrev pub both : Result (List ℕ) Verdict → Result (List ℕ) Verdict → Result Pair Verdict
+both (Ok cells) (Ok dual) = Ok (record { cells = cells; dual = dual })
+both (Err barred) dual = Err barred
+both (Ok cells) (Err barred) = Err barred
+
+abbrev pub pair_at : Holds → (cells dual : List ℕ) → Result Pair Verdict
+pair_at holds cells dual = both (text_at holds cells cells_limit (codes "cells")) (text_at holds dual dual_limit (codes "dual"))
+
 -- The verdict is v where the reads give it. Else it is what `next` says of the texts.
-abbrev pub AfterRead : Result Texts Verdict → Verdict → (Texts → Type 0) → Type 0
+abbrev pub AfterRead : {A : Type 0} → Result A Verdict → Verdict → (A → Type 0) → Type 0
 AfterRead (Ok texts) v next = next texts
 AfterRead (Err barred) v next = v ≡ barred
 
@@ -100,8 +119,19 @@ JudgesCells cells input schedule v =
     AfterText (ReadsCellFile cells) v (λ list.
     JudgesRun (inputs_of list) input schedule (λ inputs choices. RunCells list inputs choices) v)
 
+abbrev pub JudgesProgram : (source : List ℕ) → Verdict → Type 0
+JudgesProgram source v = AfterText (ReadsProgram source) v (λ tree. v ≡ Accepted TellRight)
+
+abbrev pub JudgesDual : (cells dual : List ℕ) → Verdict → Type 0
+JudgesDual cells dual v =
+    AfterText (ReadsCellFile cells) v (λ list.
+    AfterText (ReadsDualFile list dual) v (λ flow.
+    v ≡ Accepted (TellLeast list)))
+
 abbrev pub Judges : Order → Holds → Verdict → Type 0
+Judges (Check source) holds v = AfterRead (text_at holds source source_limit (codes "source")) v (λ text. JudgesProgram text v)
 Judges (Go source input schedule cells dual) holds v =
     AfterRead (texts_at holds source source_limit (codes "source") input schedule) v (λ texts. JudgesGo texts.first texts.input texts.schedule cells dual v)
 Judges (Run cells input schedule) holds v =
     AfterRead (texts_at holds cells cells_limit (codes "cells") input schedule) v (λ texts. JudgesCells texts.first texts.input texts.schedule v)
+Judges (Verify cells dual) holds v = AfterRead (pair_at holds cells dual) v (λ texts. JudgesDual texts.cells texts.dual v)

@@ -1,5 +1,5 @@
 //! The words of a command line.
-ghost use Rattle.std.specs.Prelude.{◌≡◌, map, string_bytes};
+ghost use Rattle.std.specs.Prelude.{◌≡◌, ◌∷◌, [], map, string_bytes};
 ghost use Rattle.std.specs.Option.{option_map};
 ghost use Rattle.std.specs.Str.{bytes_eq};
 ghost use Rattle.df_top.specs.Orders.{order_of};
@@ -8,6 +8,10 @@ ghost use Rattle.df_top.specs.Words.{order_meant};
 /// A command with the names of its files.
 #[derive(Clone, Copy)]
 pub enum Command<'a> {
+    /// Tells of a source that its names and types are right.
+    Check {
+        source: &'a String,
+    },
     /// Compiles a source and runs its cells.
     Go {
         source: &'a String,
@@ -22,6 +26,11 @@ pub enum Command<'a> {
         input: &'a String,
         schedule: &'a String,
     },
+    /// Tells of the cells of a file that their buffers are balanced and least, if a dual flow shows it.
+    Verify {
+        cells: &'a String,
+        dual: &'a String,
+    },
 }
 
 fn is_same(a: &String, b: &String) -> bool
@@ -30,34 +39,95 @@ fn is_same(a: &String, b: &String) -> bool
     a.as_str() == b.as_str()
 }
 
+// Whether a word is this one.
+fn is_word(word: &String, text: &str) -> bool
+    ensures { result ≡ bytes_eq (string_bytes word.now) text.now }
+{
+    word.as_str() == text
+}
+
+fn check_of<'a>(word: &String, source: &'a String) -> Option<Command<'a>>
+    ensures { option_map order_meant result ≡ order_of (string_bytes word.now ∷ string_bytes source.now ∷ []) }
+{
+    if is_word(word, "check") {
+        Some(Command::Check { source })
+    } else {
+        None
+    }
+}
+
+fn verify_of<'a>(word: &String, cells: &'a String, dual: &'a String) -> Option<Command<'a>>
+    ensures { option_map order_meant result ≡ order_of (string_bytes word.now ∷ string_bytes cells.now ∷ string_bytes dual.now ∷ []) }
+{
+    if is_word(word, "verify") {
+        Some(Command::Verify { cells, dual })
+    } else {
+        None
+    }
+}
+
+fn run_of<'a>(
+    word: &String,
+    cells: &'a String,
+    input: &'a String,
+    schedule: &'a String,
+) -> Option<Command<'a>>
+    ensures { option_map order_meant result
+        ≡ order_of (string_bytes word.now ∷ string_bytes cells.now ∷ string_bytes input.now ∷ string_bytes schedule.now ∷ []) }
+{
+    if is_word(word, "run") {
+        Some(Command::Run {
+            cells,
+            input,
+            schedule,
+        })
+    } else {
+        None
+    }
+}
+
+// None where a name that is to be written is another name of the command.
+fn go_of<'a>(
+    word: &String,
+    source: &'a String,
+    input: &'a String,
+    schedule: &'a String,
+    cells: &'a String,
+    dual: &'a String,
+) -> Option<Command<'a>>
+    ensures { option_map order_meant result ≡ order_of
+        (string_bytes word.now ∷ string_bytes source.now ∷ string_bytes input.now ∷ string_bytes schedule.now ∷ string_bytes cells.now ∷ string_bytes dual.now ∷ []) }
+{
+    if !is_word(word, "go") {
+        return None;
+    }
+    let cells_named_twice = is_same(cells, source)
+        || is_same(cells, input)
+        || is_same(cells, schedule)
+        || is_same(cells, dual);
+    let dual_named_twice = is_same(dual, source) || is_same(dual, input) || is_same(dual, schedule);
+    if cells_named_twice || dual_named_twice {
+        return None;
+    }
+    Some(Command::Go {
+        source,
+        input,
+        schedule,
+        cells,
+        dual,
+    })
+}
+
 /// The command that the words are. They are none where a name that is to be written is another name of the same command.
 pub fn command_of(words: &[String]) -> Option<Command<'_>>
     ensures { option_map order_meant result ≡ order_of (map string_bytes words.now) }
 {
     match words {
-        [command, cells, input, schedule] if command.as_str() == "run" => Some(Command::Run {
-            cells,
-            input,
-            schedule,
-        }),
-        [command, source, input, schedule, cells, dual] if command.as_str() == "go" => {
-            let cells_named_twice = is_same(cells, source)
-                || is_same(cells, input)
-                || is_same(cells, schedule)
-                || is_same(cells, dual);
-            let dual_named_twice = is_same(dual, source)
-                || is_same(dual, input)
-                || is_same(dual, schedule);
-            if cells_named_twice || dual_named_twice {
-                return None;
-            }
-            Some(Command::Go {
-                source,
-                input,
-                schedule,
-                cells,
-                dual,
-            })
+        [word, source] => check_of(word, source),
+        [word, cells, dual] => verify_of(word, cells, dual),
+        [word, cells, input, schedule] => run_of(word, cells, input, schedule),
+        [word, source, input, schedule, cells, dual] => {
+            go_of(word, source, input, schedule, cells, dual)
         }
         _ => None,
     }

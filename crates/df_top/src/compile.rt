@@ -9,9 +9,8 @@ use crate::program::Program;
 use df_cells::cells::{Cell, CellId, Cells, Dest, Feed, Port};
 use df_cells::kinds::Kind;
 use df_cells::ports::{Dests, Ports};
-use df_machine::laws::{
-    has_all_results, never_clashes, results_follow_labels, three_cells_are_well_formed,
-};
+use df_histories::laws::{never_clashes, results_follow_histories};
+use df_machine::laws::{has_all_results, three_cells_are_well_formed};
 use df_values::memory::Memory;
 use df_values::name::Name;
 use df_values::values::{Basic, Integer, Value};
@@ -22,7 +21,7 @@ pub fn always_faithful()
     ensures { AlwaysFaithful }
 {
     never_clashes();
-    results_follow_labels();
+    results_follow_histories();
     has_all_results();
     three_cells_are_well_formed();
 }

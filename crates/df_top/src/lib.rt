@@ -1,24 +1,27 @@
 //! The commands: what is read and refused, what is written, and with which status a call ends.
 //!
-//! `valflow` is the top call. It reads and judges all texts first (`command`, `judge` and the readers of texts below it), then
-//! compiles and runs (`planned`), and writes last (`writes`). Its contract says, of the bytes under each name, which status comes
+//! `valflow` is the top call. It reads and judges all texts first (`command`, `reads`, `judge` and the readers of texts below
+//! it), then compiles and runs (`planned`), and writes last (`writes`). Its contract says, of the bytes under each name, which status comes
 //! exactly when, and what stands then.
 #![tactic(auto)]
 
 mod command;
 pub mod compile;
-pub mod dual_text;
 mod judge;
 pub mod laws;
 mod plan;
 mod planned;
 pub mod program;
+mod programs;
+mod reads;
 mod refusals;
 pub mod report;
 mod scanner;
 mod source;
+mod source_refusals;
 mod status;
 mod stop;
+mod tasks;
 mod top;
 mod writes;
 
@@ -26,7 +29,13 @@ pub use status::Status;
 pub use top::valflow;
 
 #[cfg(test)]
+mod check_tests;
+#[cfg(test)]
+mod least_tests;
+#[cfg(test)]
 mod machine_tests;
+#[cfg(test)]
+mod schedule_tests;
 #[cfg(test)]
 mod tests;
 #[cfg(test)]

@@ -8,6 +8,8 @@ use df_values::streams::Streams;
 /// What the texts of a command ask for, once none of them is refused.
 #[derive(Drop)]
 pub enum Task<'a> {
+    /// Tell that the source is right.
+    TellRight,
     /// Compile the program, and run its cells on the inputs by the schedule.
     CompileAndRun {
         program: Program,
@@ -21,6 +23,10 @@ pub enum Task<'a> {
         cells: Cells,
         inputs: Streams,
         schedule: Schedule,
+    },
+    /// Tell that these cells are balanced and their buffers least.
+    TellLeast {
+        cells: Cells,
     },
 }
 

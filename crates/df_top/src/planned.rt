@@ -1,25 +1,28 @@
 //! What a task writes.
 ghost use Rattle.std.specs.Prelude.{◌≡◌, string_bytes, IfOk};
-ghost use Rattle.df_cells.specs.Cells.{declarations, port_of};
+ghost use Rattle.df_cells.specs.Cells.{declarations};
 ghost use Rattle.df_cells.specs.WellFormed.{WellFormed};
-ghost use Rattle.df_top.specs.Compiled.{MayDo, run_of};
+ghost use Rattle.df_top.specs.Compiled.{MayDo, run_of, unit_flow};
 ghost use Rattle.df_top.specs.Plans.{effect_of, task_meant};
 ghost use Rattle.df_top.specs.Ready.{IsReady, IsWithin, HasFewChoices};
 ghost use Rattle.df_top.specs.Meanings.{inputs_of};
-ghost use Rattle.df_top.specs.Verdicts.{CompileAndRun, RunCells};
+ghost use Rattle.df_top.specs.Verdicts.{TellRight, CompileAndRun, RunCells, TellLeast};
+ghost use Rattle.df_stages.specs.Balance.{IsBalanced, IsLeast};
 ghost use Rattle.df_values.specs.Inputs.{AreValid};
 ghost use Rattle.df_top.specs.Reports.{report_text};
 
 use crate::compile::compile;
-use crate::dual_text::{ArcFlow, write_dual};
 use crate::plan::{NewFile, Plan, Task};
 use crate::program::Program;
-use crate::report::report;
-use df_cells::cells::{CellId, Cells, Dest, Port};
+use crate::report::{least, report};
+use df_cells::cells::Cells;
 use df_cells::schedules::Schedule;
 use df_celltext::writer::write_cells;
-use df_machine::machine::Machine;
-use df_machine::runs::{ScheduleChooser, run};
+use df_dual_check::dual_text::write_dual;
+use df_histories::tracked::{Tracked, run_tracked};
+use df_machine::runs::ScheduleChooser;
+use df_stages::building::skeleton;
+use df_stages::flow::Flow;
 use df_values::bytes::Bytes;
 use df_values::memory::Memory;
 use df_values::streams::Streams;
@@ -48,8 +51,8 @@ fn run_cells(
     ensures text { IfOk result (λ ran. ran.text ≡ report_text (run_of cells inputs.lists schedule.now)) }
     ensures drained { IfOk result (λ ran. ran.is_drained ≡ (run_of cells inputs.lists schedule.now).drained) }
 {
-    let mut machine = Machine::load(alloc, cells, inputs)?;
-    let end = run(
+    let mut machine = Tracked::load(alloc, cells, inputs)?;
+    let end = run_tracked(
         &mut machine,
         &mut ScheduleChooser::new(schedule),
         MOST_EVENTS,
@@ -60,17 +63,14 @@ fn run_cells(
     })
 }
 
-// The arc to port 0 of a cell, with one unit of flow.
-fn unit_to(cell: u32) -> ArcFlow
-    ensures { result ≡ record { to = port_of cell 0; flow = 1 } }
+// One unit of flow on each of two arcs.
+fn unit_flow(alloc: Global) -> Result<Flow, Memory>
+    ensures { IfOk result (λ flow. flow ≡ unit_flow) }
 {
-    ArcFlow {
-        to: Dest {
-            cell: CellId(cell),
-            port: Port(0),
-        },
-        flow: 1,
-    }
+    let mut flow = Vec::new(alloc);
+    flow.push(1)?;
+    flow.push(1)?;
+    Ok(Flow::from_vec(flow))
 }
 
 // The cells of a program, their dual flow and the report of their run. One list of cells stands for all three.
@@ -90,7 +90,8 @@ fn plan_of_program<'a>(
 {
     let cells = compile(alloc, program)?;
     let cell_text = write_cells(alloc, &cells)?;
-    let dual_text = write_dual(alloc, &[unit_to(1), unit_to(2)])?;
+    let skeleton = skeleton(alloc, &cells)?;
+    let dual_text = write_dual(alloc, &skeleton, &unit_flow(alloc)?)?;
     let ran = run_cells(alloc, cells, inputs, schedule)?;
     let mut files = Vec::new(alloc);
     files.push(NewFile {
@@ -128,12 +129,39 @@ fn plan_of_cells<'a>(
     })
 }
 
-/// The files and the report of a task. The only error is want of memory.
+// What is told of a source that is right.
+fn plan_of_right<'a>(alloc: Global) -> Result<Plan<'a>, Memory>
+    ensures { IfOk result (λ plan. MayDo TellRight (effect_of plan)) }
+{
+    let mut text = Bytes::new(alloc);
+    text.push_text("ok\n")?;
+    Ok(Plan {
+        files: Vec::new(alloc),
+        text,
+        is_done: true,
+    })
+}
+
+// What is told of cells whose buffers are least.
+fn plan_of_least<'a>(alloc: Global, cells: &Cells) -> Result<Plan<'a>, Memory>
+    requires balanced { IsBalanced cells.now }
+    requires least { IsLeast cells.now }
+    ensures { IfOk result (λ plan. MayDo (TellLeast cells.now) (effect_of plan)) }
+{
+    Ok(Plan {
+        files: Vec::new(alloc),
+        text: least(alloc, cells)?,
+        is_done: true,
+    })
+}
+
+/// The files and the text of a task. The only error is want of memory.
 pub fn plan_for<'a>(alloc: Global, task: Task<'a>) -> Result<Plan<'a>, Memory>
     requires { IsReady (task_meant task) }
     ensures { IfOk result (λ plan. MayDo (task_meant task.entry) (effect_of plan)) }
 {
     match task {
+        Task::TellRight => plan_of_right(alloc),
         Task::CompileAndRun {
             program,
             inputs,
@@ -146,5 +174,6 @@ pub fn plan_for<'a>(alloc: Global, task: Task<'a>) -> Result<Plan<'a>, Memory>
             inputs,
             schedule,
         } => plan_of_cells(alloc, cells, inputs, &schedule),
+        Task::TellLeast { cells } => plan_of_least(alloc, &cells),
     }
 }

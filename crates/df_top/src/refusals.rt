@@ -2,9 +2,10 @@
 ghost use Rattle.std.specs.Prelude.{◌≡◌, ◌≢◌, ◌++◌, IfOk, OnOk, codes};
 ghost use Rattle.std.specs.Fmt.{decimal};
 ghost use Rattle.df_top.specs.Lines.{refusal};
-ghost use Rattle.df_top.specs.Texts.{and_word, input_reason, rule_word};
+ghost use Rattle.df_top.specs.Texts.{and_word, input_reason, rule_word, port_word, dual_reason};
 
-use df_cells::cells::CellId;
+use df_cells::cells::{CellId, Dest};
+use df_dual_check::answer::DualAnswer;
 use df_iotext::inputs::InputAnswer;
 use df_values::bytes::Bytes;
 use df_values::memory::Memory;
@@ -12,8 +13,8 @@ use df_values::name::Name;
 use df_wellformed::answers::Rule;
 use std::alloc::Global;
 
-// A number with a space before it.
-fn push_number(line: &mut Bytes, number: u32) -> Result<(), Memory>
+/// A number with a space before it.
+pub fn push_number(line: &mut Bytes, number: u32) -> Result<(), Memory>
     ensures { OnOk result (line.new ≡ line.old ++ and_word (decimal number)) }
 {
     line.push_text(" ")?;
@@ -70,8 +71,8 @@ pub fn refused_by_rule(alloc: Global, rule: Rule, cell: CellId) -> Result<Bytes,
     Ok(line)
 }
 
-// A name with a space before it.
-fn push_name(line: &mut Bytes, name: &Name) -> Result<(), Memory>
+/// A name with a space before it.
+pub fn push_name(line: &mut Bytes, name: &Name) -> Result<(), Memory>
     ensures { OnOk result (line.new ≡ line.old ++ and_word name.now) }
 {
     line.push_text(" ")?;
@@ -116,6 +117,48 @@ pub fn refused_input(alloc: Global, answer: &InputAnswer) -> Result<Bytes, Memor
     let mut line = Bytes::new(alloc);
     line.push_text("refused ")?;
     push_reason(&mut line, answer)?;
+    line.push_text("\n")?;
+    Ok(line)
+}
+
+// A port, as `CELL.PORT`, with a space before it.
+fn push_port(line: &mut Bytes, port: Dest) -> Result<(), Memory>
+    ensures { OnOk result (line.new ≡ line.old ++ and_word (port_word port)) }
+{
+    push_number(line, port.cell.0)?;
+    line.push_text(".")?;
+    line.push_number(u64::from(port.port.0))
+}
+
+// What is wrong with stages or a flow.
+fn push_dual_reason(line: &mut Bytes, answer: DualAnswer) -> Result<(), Memory>
+    ensures { OnOk result (line.new ≡ line.old ++ dual_reason answer) }
+{
+    match answer {
+        DualAnswer::NotBalanced(port) => {
+            line.push_text("NotBalanced")?;
+            push_port(line, port)?;
+            Ok(())
+        }
+        DualAnswer::BadFlow(cell) => {
+            line.push_text("BadFlow")?;
+            push_number(line, cell.0)
+        }
+        DualAnswer::NotEqual(value, buffers) => {
+            line.push_text("NotEqual ")?;
+            line.push_signed(value)?;
+            push_number(line, buffers)
+        }
+    }
+}
+
+/// The line of cells and a flow of which this is wrong.
+pub fn refused_dual(alloc: Global, answer: DualAnswer) -> Result<Bytes, Memory>
+    ensures { IfOk result (λ line. line ≡ refusal (dual_reason answer)) }
+{
+    let mut line = Bytes::new(alloc);
+    line.push_text("refused ")?;
+    push_dual_reason(&mut line, answer)?;
     line.push_text("\n")?;
     Ok(line)
 }

@@ -231,6 +231,71 @@ fn cells_from_a_file_are_run(rt: HostRuntime) -> Result<(), Fail> {
     Ok(())
 }
 
+const TWO_PATHS: &str =
+    "dataflow 1 7\n0 IN A integer 2 stage 0 loop 0 ports dests 1.0 5.0\n1 ADD stage 1 loop 0 ports @0 =1 dests 2.0\n2 MUL stage 2 loop 0 ports @1 =2 dests 3.1\n3 ADD stage 3 loop 0 ports @6 @2 dests 4.0\n4 OUT 1 2 stage 4 loop 0 ports @3 dests\n5 BUF stage 1 loop 0 ports @0 dests 6.0\n6 BUF stage 2 loop 0 ports @5 dests 3.0\nend\n";
+
+const OFF_STAGE: &str =
+    "dataflow 1 7\n0 IN A integer 2 stage 0 loop 0 ports dests 1.0 5.0\n1 ADD stage 1 loop 0 ports @0 =1 dests 2.0\n2 MUL stage 2 loop 0 ports @1 =2 dests 3.1\n3 ADD stage 3 loop 0 ports @6 @2 dests 4.0\n4 OUT 1 2 stage 5 loop 0 ports @3 dests\n5 BUF stage 1 loop 0 ports @0 dests 6.0\n6 BUF stage 2 loop 0 ports @5 dests 3.0\nend\n";
+
+const TWO_FLOWS: &str = "dual 1 5\n1.0 2\n2.0 2\n3.0 0\n3.1 2\n4.0 1\nend\n";
+
+#[test]
+fn buffers_of_a_file_are_judged(rt: HostRuntime) -> Result<(), Fail> {
+    let alloc = rt.alloc();
+    let rows = [
+        (
+            TWO_PATHS,
+            TWO_FLOWS,
+            Status::Done,
+            "verified\nskeleton 5\nbuffers 2\n",
+        ),
+        (
+            CELLS,
+            DUAL,
+            Status::Done,
+            "verified\nskeleton 3\nbuffers 0\n",
+        ),
+        (
+            TWO_PATHS,
+            "dual 1 5\n1.0 2\n2.0 2\n3.0 1\n3.1 2\n4.0 1\nend\n",
+            Status::Refused,
+            "refused BadFlow 0\n",
+        ),
+        (
+            TWO_PATHS,
+            "dual 1 5\n1.0 1\n2.0 1\n3.0 1\n3.1 1\n4.0 1\nend\n",
+            Status::Refused,
+            "refused NotEqual 0 2\n",
+        ),
+        (
+            OFF_STAGE,
+            TWO_FLOWS,
+            Status::Refused,
+            "refused NotBalanced 4.0\n",
+        ),
+        (
+            TWO_PATHS,
+            "dual 1 5\n1.0 2\n2.0 02\n",
+            Status::Refused,
+            "refused BadDual 3\n",
+        ),
+        (
+            "dataflow 1 1\n0 CTL stage 0 loop 1 ports dests\nend\n",
+            "",
+            Status::Refused,
+            "refused BadCells loop 0\n",
+        ),
+    ];
+    for (cells, dual, status, out) in rows {
+        let texts = [cells, dual, ""];
+        let found = run_command(alloc, "verify P I", texts, Vec::new(alloc), Vec::new(alloc))?;
+        assert_eq!(rt; found.out.as_slice(), out.as_bytes());
+        assert_eq!(rt; found.status, status);
+        assert_eq!(rt; found.cells.is_none(), true);
+    }
+    Ok(())
+}
+
 // The calls are open, read, read and close for each text, and then create, write and close for each file.
 #[test]
 fn each_call_of_the_files_fails(rt: HostRuntime) -> Result<(), Fail> {

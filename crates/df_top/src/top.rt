@@ -10,12 +10,12 @@ ghost use Rattle.df_top.specs.Carried.{StandsFor, IsCarriedOut, ended};
 ghost use Rattle.df_top.specs.Plans.{effect_of};
 
 use crate::command::{Command, command_of};
-use crate::judge::task_of;
 use crate::laws::has_one_verdict;
 use crate::plan::Plan;
 use crate::planned::plan_for;
 use crate::status::Status;
 use crate::stop::Stop;
+use crate::tasks::task_of;
 use crate::writes::write_files;
 use df_io::{Fault, FileMode, Files, Sink, write_out};
 use df_values::memory::Memory;

@@ -8,16 +8,16 @@ use Rattle.df_top.proofs.RunReports.{same_report}
 use Rattle.df_top.proofs.planned.run_cells.Goals as goal
 
 reported : (c : goal.After-drop-machine-inside-11)
-    → record { drained = c.run-end.result.drained; events = c.run-end.result.events; results = c.run-end.new.machine.state.results; fired = c.run-end.new.machine.state.fired }
+    → record { drained = c.run_tracked-end.result.drained; events = c.run_tracked-end.result.events; results = c.run_tracked-end.new.t.state.results; fired = c.run_tracked-end.new.t.state.fired }
     ≡ run_of c.args.cells c.args.inputs.lists c.args.schedule.now
 reported c =
     let few : length c.new.result ≤ 1001000000 = subst (λ l. length l ≤ 1001000000) (sym c.new.ensures) c.requires.few in
     let machine = c.in_ok-machine.machine in
-    same_report c.args.cells c.args.inputs.lists (choices_of c.args.schedule.now) machine c.run-end.new.machine c.run-end.result.events c.run-end.result.drained
+    same_report c.args.cells c.args.inputs.lists (choices_of c.args.schedule.now) machine c.run_tracked-end.new.t c.run_tracked-end.result.events c.run_tracked-end.result.drained
     c.in_ok-machine.ensures.cells c.in_ok-machine.ensures.inputs c.in_ok-machine.ensures.state
-    (c.run-end.ensures.whole_state few ∙ ap (λ l. record machine { state = run machine.cells machine.inputs machine.state l }) c.new.ensures)
-    (c.run-end.ensures.whole_events few ∙ ap (λ l. events_from machine.cells machine.inputs machine.state l) c.new.ensures)
-    c.run-end.ensures.drained
+    (c.run_tracked-end.ensures.whole_state few ∙ ap (λ l. record machine { state = run machine.cells machine.inputs machine.state l }) c.new.ensures)
+    (c.run_tracked-end.ensures.whole_events few ∙ ap (λ l. events_from machine.cells machine.inputs machine.state l) c.new.ensures)
+    c.run_tracked-end.ensures.drained
 
 pub returns-clause-text : goal.returns-clause-text
 returns-clause-text c = c.in_ok-report.ensures ∙ ap report_text (reported c)
