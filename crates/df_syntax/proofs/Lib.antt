@@ -17,3 +17,4 @@ pub mod Bounds
 pub mod SourceBounds
 pub mod Senses
 pub mod MeaningRows
+pub mod FirstRefusals
