@@ -1,6 +1,7 @@
 -- Lists of bindings, one step at a time.
 use Rattle.std.proofs.Common.{◌≡◌, ℕ, ◌+◌, ◌<◌, List, map, length, get_or, drop, drop-cons, refl, sym, subst, add-one}
-use Rattle.df_types.specs.Scopes.{Names, Binding, bind, bound}
+use Rattle.df_names.specs.Maps.{bind}
+use Rattle.df_types.specs.Scopes.{Names, Binding, bound}
 
 module _ {X : Type 0} (f : X → Binding) where
   -- the next one bound

@@ -1,7 +1,9 @@
 pub mod Bound
 pub mod Looks
+pub mod NewForms
+pub mod NewParts
+pub mod NewSources
 pub mod Parts
 pub mod PassSteps
 pub mod Restored
-pub mod Standing
 pub mod Steps

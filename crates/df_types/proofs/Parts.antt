@@ -10,16 +10,18 @@ use Rattle.df_syntax.specs.declared.tree.Sort.{Sort}
 use Rattle.df_syntax.specs.declared.tree.Sort.TheVariants as of
 use Rattle.df_types.specs.declared.answers.CheckAnswer.{CheckAnswer}
 use Rattle.df_types.specs.declared.answers.CheckAnswer.TheVariants.{WrongType, WrongArity}
-use Rattle.df_types.specs.Scopes.{Names, bind, bound}
-use Rattle.df_types.specs.Demands.{Demand, demand, first_refusal}
-use Rattle.df_types.specs.declared.scope.Scope.{Scope}
+use Rattle.df_names.specs.Maps.{bind}
+use Rattle.df_types.specs.Scopes.{Names, bound, Scope}
+use Rattle.df_syntax.specs.Demands.{first_refusal}
+use Rattle.df_types.specs.Demands.{Demand, demand}
 use Rattle.df_types.specs.declared.entry.Entry.TheVariants as entry
 use Rattle.df_types.specs.Answers.{Answers, Looked, IsRefused}
 use Rattle.df_types.specs.Sorts.{is_same, is_same_basic, is_basic}
 use Rattle.df_types.specs.Types.{Look, asked, asked_each, asked_operand, fresh, typed, defined, locals, definition_demands, let_demands}
 use Rattle.std.proofs.lemmas.List.{take_rest}
 use Rattle.df_types.proofs.Bound.{bound_at}
-use Rattle.df_types.proofs.Steps.{both, left, right, first_append}
+use Rattle.df_syntax.proofs.FirstRefusals.{both, first_append}
+use Rattle.df_types.proofs.Steps.{left, right}
 
 -- one demand more that holds, and one that fails
 pub then_holds : (ds : List Demand) (b : Bool) (refusal : CheckAnswer) → first_refusal ds ≡ None → b ≡ true → first_refusal (ds ++ demand b refusal ∷ []) ≡ None

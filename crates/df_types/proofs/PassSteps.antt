@@ -14,16 +14,18 @@ use Rattle.df_syntax.specs.declared.program.Program.{Program}
 use Rattle.df_types.specs.declared.answers.CheckAnswer.{CheckAnswer}
 use Rattle.df_types.specs.declared.entry.Entry.{Entry}
 use Rattle.df_types.specs.declared.entry.Entry.TheVariants as entry
-use Rattle.df_types.specs.declared.scope.Scope.{Scope}
-use Rattle.df_types.specs.Found.{names_of}
-use Rattle.df_types.specs.Scopes.{Names, Binding, nothing, bind, unbind, bound, unbound}
+use Rattle.df_types.specs.Scopes.{Scope, Names, Binding, bound, unbound}
+use Rattle.df_names.specs.Found.{names_of}
+use Rattle.df_names.specs.Maps.{nothing, bind, unbind}
 use Rattle.df_types.proofs.Restored.{new_is_nothing, unbind_bind}
-use Rattle.df_types.specs.Demands.{Demand, first_refusal}
+use Rattle.df_syntax.specs.Demands.{first_refusal}
+use Rattle.df_types.specs.Demands.{Demand}
 use Rattle.df_types.specs.Answers.{Answers, IsRefused}
 use Rattle.df_types.specs.Sorts.{integer}
 use Rattle.df_types.specs.Types.{Look, asked, asked_each, fresh}
 use Rattle.df_types.specs.Sources.{demands, declared, all_names, later, numbered, constants, arrays, all_range_demands, last_parameters, left_without, constant_look, constant_demands, one_range_demands, range_demands, fresh_demands, function_demands, functions_demands, is_empty}
-use Rattle.df_types.proofs.Steps.{left, right, both, first_append, rest_holds}
+use Rattle.df_syntax.proofs.FirstRefusals.{both, first_append, rest_holds}
+use Rattle.df_types.proofs.Steps.{left, right}
 
 -- ---- constants
 

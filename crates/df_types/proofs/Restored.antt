@@ -8,10 +8,12 @@ use Rattle.df_syntax.specs.declared.tree.Expr.{Expr}
 use Rattle.df_types.specs.declared.answers.CheckAnswer.TheVariants.{NameTwice}
 use Rattle.df_types.specs.declared.entry.Entry.{Entry}
 use Rattle.df_types.specs.declared.entry.Entry.TheVariants as entry
-use Rattle.df_types.specs.Scopes.{Names, bind, unbind, bound, unbound}
-use Rattle.df_types.specs.Demands.{Demand, first_refusal}
+use Rattle.df_names.specs.Maps.{bind, unbind}
+use Rattle.df_types.specs.Scopes.{Names, bound, unbound}
+use Rattle.df_syntax.specs.Demands.{first_refusal}
+use Rattle.df_types.specs.Demands.{Demand}
 use Rattle.df_types.specs.Types.{Look, asked, fresh, defined, locals, typed, definition_demands}
-use Rattle.df_types.proofs.Steps.{rest_holds}
+use Rattle.df_syntax.proofs.FirstRefusals.{rest_holds}
 
 -- a name that is new stands for nothing
 pub new_is_nothing : (named : Named) (names : Names) (ds : List Demand) → first_refusal (fresh named names ∷ ds) ≡ None → names named.name ≡ None

@@ -1,31 +1,14 @@
 -- Demands that are tried one behind the other.
-use Rattle.std.proofs.Common.{◌≡◌, ℕ, suc, ◌+◌, ◌<◌, true, false, List, [], ◌∷◌, ◌++◌, map, length, get_or, drop, drop-cons, refl, sym, ◌∙◌, ap, subst, add-one, Some, None, if◌then◌else◌, Result, Ok, Err}
+use Rattle.std.proofs.Common.{◌≡◌, ℕ, suc, ◌<◌, List, ◌++◌, map, length, get_or, drop, drop-cons, sym, ◌∙◌, ap, subst, Some, None, Result, Ok, Err}
 use Rattle.std.specs.Prelude.{flat_map}
 use Rattle.std.specs.Result.{IsErrAnd}
 use Rattle.df_types.specs.declared.answers.CheckAnswer.{CheckAnswer}
-use Rattle.df_types.specs.declared.scope.Scope.{Scope}
-use Rattle.df_types.specs.Found.{names_of}
-use Rattle.df_types.specs.Scopes.{Names}
-use Rattle.df_types.specs.Demands.{Demand, first_refusal}
+use Rattle.df_names.specs.Found.{names_of}
+use Rattle.df_types.specs.Scopes.{Names, Scope}
+use Rattle.df_syntax.proofs.FirstRefusals.{first_append, first_stays, both}
+use Rattle.df_syntax.specs.Demands.{first_refusal}
+use Rattle.df_types.specs.Demands.{Demand}
 use Rattle.df_types.specs.Answers.{Answers, IsRefused}
-
--- all hold on the left: the right decides
-pub first_append : (as_ bs : List Demand) → first_refusal as_ ≡ None → first_refusal (as_ ++ bs) ≡ first_refusal bs
-first_append [] bs h = refl
-first_append (d ∷ ds) bs h =
-    elim d.holds as (λ b. (if b then first_refusal ds else Some d.refusal) ≡ None → (if b then first_refusal (ds ++ bs) else Some d.refusal) ≡ first_refusal bs)
-    [ true ↦ (λ h'. first_append ds bs h') | false ↦ (λ h'. cc) ] h
-
--- one fails on the left: the whole is refused so
-pub first_stays : (as_ bs : List Demand) (r : CheckAnswer) → first_refusal as_ ≡ Some r → first_refusal (as_ ++ bs) ≡ Some r
-first_stays [] bs r h = cc
-first_stays (d ∷ ds) bs r h =
-    elim d.holds as (λ b. (if b then first_refusal ds else Some d.refusal) ≡ Some r → (if b then first_refusal (ds ++ bs) else Some d.refusal) ≡ Some r)
-    [ true ↦ (λ h'. first_stays ds bs r h') | false ↦ (λ h'. h') ] h
-
--- both hold
-pub both : (as_ bs : List Demand) → first_refusal as_ ≡ None → first_refusal bs ≡ None → first_refusal (as_ ++ bs) ≡ None
-both as_ bs h k = first_append as_ bs h ∙ k
 
 -- the left is refused
 pub left : (as_ bs : List Demand) (x : CheckAnswer) → IsRefused as_ x → IsRefused (as_ ++ bs) x
@@ -44,12 +27,6 @@ handed_on value ds names (Err y) scope x is h = λ ordinary. h (λ e. ordinary (
 -- ---- demands of the members of a list, one member at a time
 
 module _ {X Y : Type 0} (g : Y → List Demand) (f : X → Y) where
-  pub each_step : (xs : List X) (i : ℕ) (y : X) → i < length xs → y ≡ get_or xs i y → first_refusal (g (f y)) ≡ None
-      → first_refusal (flat_map g (map f (drop i xs))) ≡ first_refusal (flat_map g (map f (drop (i + 1) xs)))
-  each_step xs i y below is h =
-      rw (add-one i, drop-cons xs i y)
-      (first_append (g (f (get_or xs i y))) (flat_map g (map f (drop (suc i) xs))) (subst (λ (z : X). first_refusal (g (f z)) ≡ None) is h))
-
   pub each_stop : (xs : List X) (i : ℕ) (y : X) (x : CheckAnswer) → i < length xs → y ≡ get_or xs i y → IsRefused (g (f y)) x → IsRefused (flat_map g (map f (drop i xs))) x
   each_stop xs i y x below is h =
       rw (drop-cons xs i y) (left (g (f (get_or xs i y))) (flat_map g (map f (drop (suc i) xs))) x (subst (λ (z : X). IsRefused (g (f z)) x) is h))
@@ -73,12 +50,6 @@ pub answers_2 : {A : Type 0} (value : Names → A) (as_ : List Demand) (bs : Nam
     → first_refusal as_ ≡ None → names_of s ≡ n → Answers (value (names_of s)) (bs (names_of s)) (after (names_of s)) r t → Answers (value n) (as_ ++ bs n) (after n) r t
 answers_2 value as_ bs after n s r t h same k =
     answers_on (value n) as_ (bs n) (after n) r t h (subst (λ (m : Names). Answers (value m) (bs m) (after m) r t) same k)
-
--- what follows holds where the whole does
-pub rest_holds : (as_ bs : List Demand) → first_refusal (as_ ++ bs) ≡ None → first_refusal bs ≡ None
-rest_holds [] bs h = h
-rest_holds (d ∷ ds) bs h =
-    elim d.holds as (λ b. (if b then first_refusal (ds ++ bs) else Some d.refusal) ≡ None → first_refusal bs ≡ None) [ true ↦ (λ h'. rest_holds ds bs h') | false ↦ (λ h'. cc) ] h
 
 -- ---- demands where the names are as they were
 

@@ -2,11 +2,11 @@
 use Rattle.std.specs.Prelude.{◌≡◌, List, Some, None, Result, Ok, Err}
 use Rattle.df_types.specs.declared.answers.CheckAnswer.{CheckAnswer}
 use Rattle.df_types.specs.declared.answers.CheckAnswer.TheVariants.{Memory}
-use Rattle.df_types.specs.declared.scope.Scope.{Scope}
+use Rattle.df_types.specs.Scopes.{Scope, Names}
 use Rattle.df_syntax.specs.declared.tree.Sort.{Sort}
-use Rattle.df_types.specs.Scopes.{Names}
-use Rattle.df_types.specs.Found.{names_of}
-use Rattle.df_types.specs.Demands.{Demand, first_refusal}
+use Rattle.df_names.specs.Found.{names_of}
+use Rattle.df_syntax.specs.Demands.{first_refusal}
+use Rattle.df_types.specs.Demands.{Demand}
 use Rattle.df_types.specs.Types.{Look}
 
 -- all demands hold, the value is this one, and the names stand for this

@@ -1,7 +1,5 @@
 pub mod Answers
 pub mod Demands
-pub mod Found
-pub mod Keys
 pub mod Rows
 pub mod Scopes
 pub mod Sorts

@@ -1,23 +1,18 @@
 -- What the names in scope stand for.
-use Rattle.std.specs.Prelude.{ℕ, List, [], ◌∷◌, Option, Some, None, bytes_eq, if◌then◌else◌}
+use Rattle.std.specs.Prelude.{List, [], ◌∷◌}
+use Rattle.df_names.specs.declared.map.NameMap.{NameMap}
+use Rattle.df_names.specs.Maps as map
+use Rattle.df_names.specs.Maps.{bind, unbind}
 use Rattle.df_syntax.specs.declared.tree.Named.{Named}
 use Rattle.df_types.specs.declared.entry.Entry.{Entry}
 
+-- a map of what the names in scope stand for
+abbrev pub Scope : Type 0
+Scope = NameMap Entry
+
 -- what each name stands for, or nothing
 abbrev pub Names : Type 0
-Names = List ℕ → Option Entry
-
--- where no name stands for anything
-abbrev pub nothing : Names
-nothing = λ _. None
-
--- one name more
-unfoldable pub bind : Names → List ℕ → Entry → Names
-bind names name entry = λ other. if bytes_eq name other then Some entry else names other
-
--- one name less
-unfoldable pub unbind : Names → List ℕ → Names
-unbind names name = λ other. if bytes_eq name other then None else names other
+Names = map.Names Entry
 
 -- a name with what it is to stand for
 abbrev pub Binding : Type 0

@@ -10,7 +10,8 @@ use Rattle.df_syntax.specs.declared.program.Function.{Function}
 use Rattle.df_syntax.specs.declared.program.Program.{Program}
 use Rattle.df_types.specs.declared.answers.CheckAnswer.TheVariants.{WrongArity, BadRange}
 use Rattle.df_types.specs.declared.entry.Entry.TheVariants as entry
-use Rattle.df_types.specs.Scopes.{Names, Binding, nothing, bind, unbind, bound}
+use Rattle.df_names.specs.Maps.{nothing, bind, unbind}
+use Rattle.df_types.specs.Scopes.{Names, Binding, bound}
 use Rattle.df_types.specs.Demands.{Demand, demand}
 use Rattle.df_types.specs.Sorts.{integer, is_array}
 use Rattle.df_types.specs.Types.{Look, look_of, asked, asked_each, fresh, count_of, body_demands}

@@ -16,7 +16,8 @@ use Rattle.df_syntax.specs.Trees.{Layer, layer_of, fold_tree}
 use Rattle.df_types.specs.declared.answers.CheckAnswer.TheVariants.{UnknownName, NameTwice, WrongType, WrongArity}
 use Rattle.df_types.specs.declared.entry.Entry.{Entry}
 use Rattle.df_types.specs.declared.entry.Entry.TheVariants as entry
-use Rattle.df_types.specs.Scopes.{Names, Binding, nothing, bind, bound}
+use Rattle.df_names.specs.Maps.{nothing, bind}
+use Rattle.df_types.specs.Scopes.{Names, Binding, bound}
 use Rattle.df_types.specs.Demands.{Demand, demand}
 use Rattle.df_types.specs.Sorts.{integer, boolean, is_same, is_basic, is_array, element_of, array_of, operator_sort, chain_sort, is_equality, is_of_any, is_value, value_sort}
 

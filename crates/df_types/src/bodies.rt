@@ -1,15 +1,14 @@
 //! Whole bodies of functions: a `let` that stands alone gives the values of its own body.
 ghost use Rattle.std.specs.Prelude.{◌≡◌, map};
 ghost use Rattle.df_types.specs.Answers.{Answers};
-ghost use Rattle.df_types.specs.Found.{names_of};
+ghost use Rattle.df_names.specs.Found.{names_of};
 ghost use Rattle.df_types.specs.Sources.{fresh_demands, parameters, results_demands, function_demands, functions_demands, first_place};
 ghost use Rattle.df_types.specs.Scopes.{bound, unbound};
 ghost use Rattle.df_types.specs.Types.{look_of, asked_each, body_demands, count_of};
 
 use crate::answers::CheckAnswer;
-use crate::entry::Entry;
+use crate::entry::{Entry, Scope};
 use crate::names::{bind_fresh, forget};
-use crate::scope::Scope;
 use crate::walk::Walk;
 use df_io::Place;
 use df_syntax::program::Function;

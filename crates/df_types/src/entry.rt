@@ -1,4 +1,5 @@
 //! What a name stands for.
+use df_names::NameMap;
 use df_syntax::tree::Sort;
 
 /// What a name in scope stands for.
@@ -13,3 +14,6 @@ pub enum Entry {
     /// The function at this place of the source's functions, from 0.
     Function(usize),
 }
+
+/// What the names in scope stand for.
+pub(crate) type Scope = NameMap<Entry>;

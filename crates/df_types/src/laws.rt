@@ -1,10 +1,15 @@
-//! What the definitions say of small sources: each call does nothing, and its contract is the row.
+//! What the definitions say of small sources, and of all that are accepted: each call does nothing, and its contract is
+//! what it says.
 ghost use Rattle.std.specs.Prelude.{◌≡◌, [], ◌∷◌, Some, None};
+ghost use Rattle.std.specs.Bool.{IsTrue};
 ghost use Rattle.df_syntax.specs.declared.tree.Sort.TheVariants as sorts;
+ghost use Rattle.df_syntax.specs.declared.program.Program.{Program};
 ghost use Rattle.df_syntax.specs.Examples.{column, number_at};
+ghost use Rattle.df_syntax.specs.WellBuilt.{program_bounded};
+ghost use Rattle.df_syntax.specs.FreshNames.{names_are_new};
 ghost use Rattle.df_values.specs.declared.values.Basic.TheVariants as basics;
 ghost use Rattle.df_types.specs.declared.answers.CheckAnswer.TheVariants as answer;
-ghost use Rattle.df_types.specs.Demands.{first_refusal};
+ghost use Rattle.df_syntax.specs.Demands.{first_refusal};
 ghost use Rattle.df_types.specs.Rows.{f, x, named_at, integer, source, x_at, truth, self_defined};
 ghost use Rattle.df_types.specs.Sources.{demands};
 
@@ -41,4 +46,10 @@ pub fn array_parameter_wants_a_range()
 /// A definition does not see its own name.
 pub fn definition_is_not_in_its_own_scope()
     ensures { first_refusal (demands (source [] (self_defined ∷ []))) ≡ Some (answer.UnknownName x (column 12)) }
+{}
+
+/// In an accepted source that keeps the bounds of the grammar, the names that functions bind are new
+/// where they are bound.
+pub fn accepted_names_are_new()
+    ensures { (p : Program) → IsTrue (program_bounded p) → first_refusal (demands p) ≡ None → IsTrue (names_are_new p) }
 {}

@@ -5,11 +5,9 @@
 mod answers;
 mod bodies;
 mod entry;
-mod key;
 pub mod laws;
 mod names;
 mod passes;
-mod scope;
 mod sorts;
 mod source;
 mod walk;

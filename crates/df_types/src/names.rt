@@ -1,14 +1,14 @@
 //! Names where they are used and where they are bound.
 ghost use Rattle.std.specs.Prelude.{◌≡◌, ◌∷◌, [], IfOk};
 ghost use Rattle.df_types.specs.Answers.{Answers};
-ghost use Rattle.df_types.specs.Found.{names_of};
-ghost use Rattle.df_types.specs.Scopes.{bind, bound, unbound, nothing};
+ghost use Rattle.df_names.specs.Found.{names_of};
+ghost use Rattle.df_names.specs.Maps.{bind, nothing};
+ghost use Rattle.df_types.specs.Scopes.{bound, unbound};
 ghost use Rattle.df_types.specs.Sorts.{value_sort};
 ghost use Rattle.df_types.specs.Types.{known, known_array, fresh, locals};
 
 use crate::answers::CheckAnswer;
-use crate::entry::Entry;
-use crate::scope::Scope;
+use crate::entry::{Entry, Scope};
 use crate::sorts::is_array;
 use df_io::Place;
 use df_syntax::tree::{Definition, Named, Sort};

@@ -1,15 +1,15 @@
 //! A whole source, in four passes.
 ghost use Rattle.std.specs.Prelude.{◌≡◌, [], IfOk};
 ghost use Rattle.df_types.specs.Answers.{Answers, IsRefused};
-ghost use Rattle.df_types.specs.Demands.{first_refusal};
-ghost use Rattle.df_types.specs.Found.{names_of};
-ghost use Rattle.df_types.specs.Scopes.{bound, nothing};
+ghost use Rattle.df_syntax.specs.Demands.{first_refusal};
+ghost use Rattle.df_names.specs.Found.{names_of};
+ghost use Rattle.df_names.specs.Maps.{nothing};
+ghost use Rattle.df_types.specs.Scopes.{bound};
 ghost use Rattle.df_types.specs.Sources.{fresh_demands, later, numbered, constant_demands, constants, last_parameters, arrays, range_demands, left_without, ranged_demands, all_range_demands};
 
 use crate::answers::CheckAnswer;
-use crate::entry::Entry;
+use crate::entry::{Entry, Scope};
 use crate::names::bind_fresh;
-use crate::scope::Scope;
 use crate::sorts::is_array;
 use crate::walk::Walk;
 use df_syntax::program::{Constant, Function, Range};

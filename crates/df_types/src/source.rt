@@ -1,12 +1,12 @@
 //! Names and types of a whole source.
 ghost use Rattle.std.specs.Prelude.{◌≡◌, IfErr, OnOk, Some, None};
-ghost use Rattle.df_types.specs.Demands.{first_refusal};
+ghost use Rattle.df_syntax.specs.Demands.{first_refusal};
 ghost use Rattle.df_types.specs.Sources.{demands};
 ghost use Rattle.df_types.specs.Answers.{IsRefused};
 
 use crate::answers::CheckAnswer;
+use crate::entry::Scope;
 use crate::passes::{check_constants, check_ranges, declare_constants, declare_functions};
-use crate::scope::Scope;
 use crate::walk::Walk;
 use df_syntax::program::Program;
 use std::alloc::Global;

@@ -5,15 +5,14 @@ ghost use Rattle.df_syntax.specs.declared.tree.Link.{Link as OneLink};
 ghost use Rattle.df_syntax.specs.declared.tree.Arm.{Arm as OneArm};
 ghost use Rattle.df_syntax.specs.declared.tree.Parameter.{Parameter as OneParameter};
 ghost use Rattle.df_types.specs.Answers.{Answers, Looked};
-ghost use Rattle.df_types.specs.Found.{names_of};
+ghost use Rattle.df_names.specs.Found.{names_of};
 ghost use Rattle.df_types.specs.Scopes.{bound};
 ghost use Rattle.df_types.specs.Sorts.{chain_sort};
 ghost use Rattle.df_types.specs.Types.{look_of, block_of, forall_of, other_of, asked, asked_operand, operand_sort, asked_each, asked_links, asked_arms, function_at, call_demands, call_sort, definition_demands, assign_demands, locals, typed, given};
 
 use crate::answers::CheckAnswer;
-use crate::entry::Entry;
+use crate::entry::{Entry, Scope};
 use crate::names::{array_named, ask_fresh, bind_fresh, forget, loop_names, value_named};
-use crate::scope::Scope;
 use crate::sorts::{
     array_of, element_of, is_basic, is_equality, is_of_any, is_same, operator_sort,
 };

@@ -1,5 +1,5 @@
 use Rattle.std.proofs.Common.{◌≡◌, ◌≤◌, length, drop}
-use Rattle.df_types.specs.Found.{names_of}
+use Rattle.df_names.specs.Found.{names_of}
 use Rattle.df_types.specs.Scopes.{unbound}
 use Rattle.df_types.specs.Sources.{parameters}
 use Rattle.df_types.proofs.bodies.forget_parameters.Given as goal

@@ -2,7 +2,7 @@ use Rattle.std.proofs.Common.{refl, pos, [], ◌∷◌}
 use Rattle.df_syntax.specs.Grammar.{definition_of}
 use Rattle.df_syntax.specs.Examples.{number_at}
 use Rattle.df_types.specs.Rows.{x, named_at, integer, source, x_at, self_defined}
-use Rattle.df_types.specs.Scopes.{bind}
+use Rattle.df_names.specs.Maps.{bind}
 use Rattle.df_types.specs.Sources.{demands}
 use Rattle.df_types.proofs.Looks.{number, named, let_whole}
 use Rattle.df_types.proofs.laws.definition_is_not_in_its_own_scope.Goals as goal

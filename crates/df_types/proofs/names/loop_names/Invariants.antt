@@ -1,6 +1,7 @@
 use Rattle.std.proofs.Common.{◌≡◌, drop}
-use Rattle.df_types.specs.Found.{names_of}
-use Rattle.df_types.specs.Scopes.{bound, nothing}
+use Rattle.df_names.specs.Found.{names_of}
+use Rattle.df_names.specs.Maps.{nothing}
+use Rattle.df_types.specs.Scopes.{bound}
 use Rattle.df_types.specs.Types.{locals}
 use Rattle.df_types.proofs.names.loop_names.Given as goal
 

@@ -1,8 +1,8 @@
 use Rattle.std.proofs.Common.{◌≡◌, ◌∙◌, ap, drop}
 use Rattle.df_syntax.specs.declared.program.Constant.{Constant as OneConstant}
 use Rattle.df_types.specs.declared.entry.Entry.TheVariants as entry
-use Rattle.df_types.specs.Found.{names_of}
-use Rattle.df_types.specs.Scopes.{bind}
+use Rattle.df_names.specs.Found.{names_of}
+use Rattle.df_names.specs.Maps.{bind}
 use Rattle.df_types.specs.Sources.{constant_demands}
 use Rattle.df_types.proofs.Bound.{bound_at}
 use Rattle.df_types.proofs.PassSteps.{constant_step, constant_stop}

@@ -1,13 +1,15 @@
 use Rattle.std.proofs.Common.{◌≡◌, sym, ◌∙◌, ap, drop, [], ◌∷◌, ◌++◌, Some, None, not, if◌then◌else◌}
 use Rattle.std.specs.Option.{is_some}
 use Rattle.df_types.specs.declared.answers.CheckAnswer.TheVariants.{BadRange}
-use Rattle.df_types.specs.Demands.{demand, first_refusal}
-use Rattle.df_types.specs.Found.{names_of}
+use Rattle.df_syntax.specs.Demands.{first_refusal}
+use Rattle.df_types.specs.Demands.{demand}
+use Rattle.df_names.specs.Found.{names_of}
 use Rattle.df_types.specs.Sorts.{integer}
 use Rattle.df_types.specs.Types.{asked}
 use Rattle.df_types.specs.Sources.{constant_look, range_demands}
 use Rattle.df_types.proofs.PassSteps.{range_step, range_stop, left_step}
-use Rattle.df_types.proofs.Steps.{left, right, both, handed_on, refused_2, holds_2, moved, moved_refused, refused_as}
+use Rattle.df_syntax.proofs.FirstRefusals.{both}
+use Rattle.df_types.proofs.Steps.{left, right, handed_on, refused_2, holds_2, moved, moved_refused, refused_as}
 use Rattle.df_types.proofs.passes.check_each_range.Goals as goal
 
 pub returns-in_err-ask-clause-answers : goal.returns-in_err-ask-clause-answers

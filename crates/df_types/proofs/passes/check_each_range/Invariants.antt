@@ -1,6 +1,6 @@
 use Rattle.std.proofs.Common.{◌≡◌, drop}
-use Rattle.df_types.specs.Found.{names_of}
-use Rattle.df_types.specs.Demands.{first_refusal}
+use Rattle.df_names.specs.Found.{names_of}
+use Rattle.df_syntax.specs.Demands.{first_refusal}
 use Rattle.df_types.specs.Sources.{range_demands, left_without}
 use Rattle.df_types.proofs.passes.check_each_range.Given as goal
 

@@ -1,6 +1,7 @@
 use Rattle.std.proofs.Common.{◌≡◌}
-use Rattle.df_types.specs.Found.{names_of}
-use Rattle.df_types.specs.Scopes.{nothing, bound}
+use Rattle.df_names.specs.Found.{names_of}
+use Rattle.df_names.specs.Maps.{nothing}
+use Rattle.df_types.specs.Scopes.{bound}
 use Rattle.df_types.specs.Sources.{last_parameters, arrays, range_demands, ranged_demands, left_without}
 use Rattle.df_types.proofs.PassSteps.{answers_read}
 use Rattle.df_types.proofs.Steps.{left, handed_on}

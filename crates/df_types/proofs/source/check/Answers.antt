@@ -1,8 +1,8 @@
 use Rattle.std.proofs.Common.{◌≡◌, ◌∙◌, ◌++◌, None}
 use Rattle.df_types.specs.Answers.{Answers}
-use Rattle.df_types.specs.Demands.{first_refusal}
-use Rattle.df_types.specs.Found.{names_of}
-use Rattle.df_types.specs.Scopes.{nothing}
+use Rattle.df_syntax.specs.Demands.{first_refusal}
+use Rattle.df_names.specs.Found.{names_of}
+use Rattle.df_names.specs.Maps.{nothing}
 use Rattle.df_types.specs.Sources.{fresh_demands, later, numbered, constant_demands, all_range_demands, arrays, last_parameters, functions_demands}
 use Rattle.df_types.proofs.PassSteps.{stage_1, stage_2, stage_3, refusal_of, accepted_of, refused_of}
 use Rattle.df_types.proofs.Steps.{left, right, answers_on}

@@ -1,7 +1,8 @@
 use Rattle.std.proofs.Common.{◌≡◌, refl, sym, ◌∙◌, ap, map, List, None}
 use Rattle.df_syntax.specs.declared.tree.Sort.{Sort}
-use Rattle.df_types.specs.Demands.{Demand, first_refusal}
-use Rattle.df_types.specs.Found.{names_of}
+use Rattle.df_syntax.specs.Demands.{first_refusal}
+use Rattle.df_types.specs.Demands.{Demand}
+use Rattle.df_names.specs.Found.{names_of}
 use Rattle.df_types.specs.Scopes.{Names, bound, unbound}
 use Rattle.df_types.specs.Types.{look_of, body_demands, definition_demands, locals, typed}
 use Rattle.df_types.proofs.Looks.{parens, let_whole, is_one}

@@ -6,13 +6,16 @@ use Rattle.df_syntax.specs.declared.tree.Assign.{Assign as OneAssign}
 use Rattle.df_syntax.specs.declared.tree.Named.{Named}
 use Rattle.df_values.specs.declared.kinds.Op.{Op}
 use Rattle.df_types.specs.declared.entry.Entry.TheVariants as entry
-use Rattle.df_types.specs.Demands.{Demand, first_refusal}
-use Rattle.df_types.specs.Found.{names_of}
-use Rattle.df_types.specs.Scopes.{Names, nothing, bind, unbind, bound, unbound}
+use Rattle.df_syntax.specs.Demands.{first_refusal}
+use Rattle.df_types.specs.Demands.{Demand}
+use Rattle.df_names.specs.Found.{names_of}
+use Rattle.df_names.specs.Maps.{nothing, bind, unbind}
+use Rattle.df_types.specs.Scopes.{Names, bound, unbound}
 use Rattle.df_types.specs.Sorts.{integer, boolean, is_same, is_basic, chain_sort, element_of, array_of, operator_sort, is_equality, value_sort}
 use Rattle.df_types.specs.Types.{Look, look_of, other_of, asked, asked_operand, operand_sort, asked_each, asked_links, asked_arms, definition_demands, assign_demands, locals, typed, given, fresh, known, known_array, inside, range_demands}
 use Rattle.df_types.proofs.Looks.{place_is, number, truth, fault, named, access, called, chain, compared, negate, invert, parens, tested, two_place, chosen, let_in, construct, folded, loop, array, updated, is_block, is_forall, is_other, is_neither, Nowhere}
-use Rattle.df_types.proofs.Steps.{left, right, both, handed_on, refused_2, holds_2, answers_2, each_step, each_stop, moved, moved_refused, refused_as}
+use Rattle.df_syntax.proofs.FirstRefusals.{both, each_step}
+use Rattle.df_types.proofs.Steps.{left, right, handed_on, refused_2, holds_2, answers_2, each_stop, moved, moved_refused, refused_as}
 use Rattle.df_types.proofs.Parts.{compared_same, compared_not, compared_basic, compared_array, asked_itself, alone, no_member, only_member, first_member, each_asked, each_refused, definition_step, definition_stop, local_step, let_of_other, let_stops}
 use Rattle.df_types.proofs.Restored.{new_is_nothing, unbind_bind, defined_typed, restored}
 use Rattle.df_types.proofs.walk.Walk.+walk.Goals as goal

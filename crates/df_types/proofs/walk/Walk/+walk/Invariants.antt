@@ -2,8 +2,8 @@ use Rattle.std.proofs.Common.{◌≡◌, map, drop}
 use Rattle.df_syntax.specs.declared.tree.Link.{Link as OneLink}
 use Rattle.df_syntax.specs.declared.tree.Arm.{Arm as OneArm}
 use Rattle.df_syntax.specs.declared.tree.Parameter.{Parameter as OneParameter}
-use Rattle.df_types.specs.Found.{names_of}
-use Rattle.df_types.specs.Demands.{first_refusal}
+use Rattle.df_names.specs.Found.{names_of}
+use Rattle.df_syntax.specs.Demands.{first_refusal}
 use Rattle.df_types.specs.Scopes.{bound}
 use Rattle.df_types.specs.Types.{look_of, asked_each, asked_links, asked_arms, definition_demands, assign_demands, locals, typed, given}
 use Rattle.df_types.proofs.walk.Walk.+walk.Given as goal

@@ -1,6 +1,6 @@
 use Rattle.std.proofs.Common.{◌≡◌, refl, ◌∙◌, ap, None}
-use Rattle.df_types.specs.Demands.{first_refusal}
-use Rattle.df_types.specs.Found.{names_of}
+use Rattle.df_syntax.specs.Demands.{first_refusal}
+use Rattle.df_names.specs.Found.{names_of}
 use Rattle.df_types.specs.Scopes.{bound, unbound}
 use Rattle.df_types.specs.Sources.{fresh_demands, parameters, results_demands}
 use Rattle.df_types.proofs.PassSteps.{unbound_fresh}

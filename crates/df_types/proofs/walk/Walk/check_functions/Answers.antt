@@ -1,5 +1,5 @@
 use Rattle.std.proofs.Common.{refl, ◌∙◌, drop, length, ◌+◌, ◌==◌}
-use Rattle.df_types.specs.Found.{names_of}
+use Rattle.df_names.specs.Found.{names_of}
 use Rattle.df_types.specs.Sources.{function_demands, functions_demands}
 use Rattle.df_types.proofs.PassSteps.{last_one, function_step, function_stop}
 use Rattle.df_types.proofs.Steps.{handed_on, moved, moved_refused, refused_as}

@@ -1,5 +1,5 @@
 use Rattle.std.proofs.Common.{◌∙◌, drop, map, get_or, refl}
-use Rattle.df_types.specs.Found.{names_of}
+use Rattle.df_names.specs.Found.{names_of}
 use Rattle.df_types.specs.Sorts.{integer}
 use Rattle.df_types.specs.Types.{look_of, asked, asked_each}
 use Rattle.df_types.proofs.PassSteps.{asked_none, result_step, result_stop}
