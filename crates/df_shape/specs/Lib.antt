@@ -1,0 +1,17 @@
+pub mod Answers
+pub mod Demands
+pub mod Entries
+pub mod Endings
+pub mod Functions
+pub mod NamesInside
+pub mod Read
+pub mod Renamed
+pub mod RenamedParts
+pub mod Bounded
+pub mod Shaped
+pub mod Building
+pub mod Sources
+pub mod Bodies
+pub mod Sizes
+pub mod Walked
+pub mod Walks
