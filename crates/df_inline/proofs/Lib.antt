@@ -1,0 +1,13 @@
+pub mod Kept
+pub mod Programs
+pub mod Forms
+pub mod Pushed
+pub mod Saturated
+pub mod SizeForms
+pub mod TableReads
+pub mod Latest
+pub mod SizesKept
+pub mod ProgramSizes
+pub mod Known
+pub mod FoldsAgree
+pub mod CallsReplaced
