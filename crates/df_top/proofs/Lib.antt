@@ -13,3 +13,4 @@ pub mod CellReadings
 pub mod DualReadings
 pub mod Buffers
 pub mod ProgramReadings
+pub mod SourcesMeant

@@ -1,5 +1,5 @@
 -- The text of a source has one reading: a tree, or one refusal.
-use Rattle.std.proofs.Common.{◌≡◌, ◌≢◌, ◌∙◌, ℕ, List, ◌++◌, Option, Some, None, Ok, Err, refl, sym, ap, subst, codes}
+use Rattle.std.proofs.Common.{◌≡◌, ◌≢◌, ◌∙◌, ℕ, List, ◌++◌, Option, Some, None, Ok, Err, refl, sym, ap, subst, arith, codes}
 use Rattle.df_io.specs.declared.place.Place.{Place}
 use Rattle.df_grammar.specs.Answers.{IsAnswered}
 use Rattle.df_grammar.specs.declared.parser.ParseAnswer.{ParseAnswer}
@@ -9,16 +9,25 @@ use Rattle.df_syntax.specs.declared.program.Program.{Program}
 use Rattle.df_syntax.specs.TokenList.{TokenList}
 use Rattle.df_syntax.specs.Tokens.{Splits, FirstBad, LexFault}
 use Rattle.df_syntax.specs.Refusals.{IsSource, Answer, source_of, wrong_at, unsupported_at, too_deep_at, IsAnswer}
-use Rattle.df_types.specs.declared.answers.CheckAnswer.{CheckAnswer}
-use Rattle.df_types.specs.Demands.{first_refusal}
+use Rattle.df_syntax.specs.Demands.{first_refusal}
+use Rattle.df_syntax.specs.declared.piped.Piped.{Piped}
+use Rattle.df_syntax.specs.declared.piped.Flat.{Flat}
 use Rattle.df_types.specs.Sources.{demands}
+use Rattle.df_shape.specs.Answers.{IsShaped}
+use Rattle.df_shape.specs.Shaped.{shaped}
+use Rattle.df_shape.specs.Sources.{demands as form_demands}
+use Rattle.df_inline.specs.Sizes.{piped_size}
+use Rattle.df_inline.specs.declared.size.Size.{Size}
 use Rattle.df_top.specs.Judged.{GivesMeaning}
 use Rattle.df_top.specs.Laws.{ProgramsHaveOneReading}
 use Rattle.df_top.specs.Lines.{refusal}
 use Rattle.df_top.specs.Texts.{and_word}
-use Rattle.df_top.specs.ProgramTexts.{and_place, fault_word, check_reason, parse_reason, HasNoTokens, IsNoSource, FailsDemand, HasTokens, IsTextOfTree, IsRefusedSource, ReadsTokens, ReadsTree, MeetsDemands, ReadsProgram}
+use Rattle.df_top.specs.ProgramTexts.{and_place, fault_word, check_reason, parse_reason, shape_reason, HasNoTokens, IsNoSource, FailsDemand, FailsForm, IsSmall, IsOver, IsAccepted, IsNotAccepted, HasTokens, IsTextOfTree, IsRefusedSource, ReadsTokens, ReadsTree, MeetsDemands, ReadsBlocks, ReadsFlat, ReadsProgram}
 use Rattle.df_top.specs.ProgramTexts.IsNoSource.{syntax, unsupported, too_deep}
-use Rattle.df_top.specs.ProgramTexts.IsRefusedSource.{no_tokens, no_source, fails}
+use Rattle.df_top.specs.ProgramTexts.IsOver.{too_large, too_tall}
+use Rattle.df_top.specs.ProgramTexts.IsNotAccepted.{misnamed, misshapen, oversized}
+use Rattle.df_top.specs.ProgramTexts.IsRefusedSource.{no_tokens, no_source, not_accepted}
+use Rattle.df_top.specs.declared.programs.Source.{Source}
 use Rattle.df_top.specs.declared.stop.Stop.{Stop}
 use Rattle.df_top.specs.declared.stop.Stop.TheVariants as stop
 
@@ -85,17 +94,54 @@ one_tree once answers text a b p q =
     let same = same_tokens once text q.list p.list q.tokens p.tokens in
     the_tree a b (answers p.list (source_of a) (source_of b) p.source (subst (λ list. IsSource list b) same q.source))
 
--- ---- demands
+-- ---- demands and sizes
 
-the_answer : (a b : CheckAnswer) → ◌≡◌ {A = Option CheckAnswer} (Some a) (Some b) → a ≡ b
-the_answer a b e = cc
+module _ {A : Type 0} where
+  the_answer : (a b : A) → ◌≡◌ {A = Option A} (Some a) (Some b) → a ≡ b
+  the_answer a b e = cc
 
-no_answer : (a : CheckAnswer) → ◌≡◌ {A = Option CheckAnswer} None (Some a) → ⊥
-no_answer a e = cc
+  no_answer : (a : A) → ◌≡◌ {A = Option A} None (Some a) → ⊥
+  no_answer a e = cc
 
 one_failure : (tree : Program) (line other : List ℕ) → FailsDemand tree line → FailsDemand tree other → line ≡ other
 one_failure tree line other a b =
     a.says ∙ ap (λ answer. refusal (check_reason answer)) (the_answer a.answer b.answer (sym a.first ∙ b.first)) ∙ sym b.says
+
+one_bad_form : (tree : Program) (line other : List ℕ) → FailsForm tree line → FailsForm tree other → line ≡ other
+one_bad_form tree line other a b =
+    a.says ∙ ap (λ answer. refusal (shape_reason answer)) (the_answer a.answer b.answer (sym a.first ∙ b.first)) ∙ sym b.says
+
+one_excess : (size : Size) (line other : List ℕ) → IsOver size line → IsOver size other → line ≡ other
+one_excess size line other (too_large over says) (too_large more tells) = says ∙ sym tells
+one_excess size line other (too_large over says) (too_tall few tall tells) = absurd (omega arith)
+one_excess size line other (too_tall few tall says) (too_large over tells) = absurd (omega arith)
+one_excess size line other (too_tall few tall says) (too_tall fits more tells) = says ∙ sym tells
+
+no_excess : (size : Size) (line : List ℕ) → IsSmall size → IsOver size line → ⊥
+no_excess size line within (too_large over says) = let nodes = within.nodes in omega arith
+no_excess size line within (too_tall few tall says) = let brackets = within.brackets in omega arith
+
+is_named : (tree : Program) (line : List ℕ) → first_refusal (demands tree) ≡ None → FailsDemand tree line → ⊥
+is_named tree line named failure = no_answer failure.answer (sym named ∙ failure.first)
+
+is_formed : (tree : Program) (line : List ℕ) → first_refusal (form_demands tree) ≡ None → FailsForm tree line → ⊥
+is_formed tree line formed failure = no_answer failure.answer (sym formed ∙ failure.first)
+
+one_cause : (tree : Program) (line other : List ℕ) → IsNotAccepted tree line → IsNotAccepted tree other → line ≡ other
+one_cause tree line other (misnamed a) (misnamed b) = one_failure tree line other a b
+one_cause tree line other (misnamed a) (misshapen named b) = absurd (is_named tree line named a)
+one_cause tree line other (misnamed a) (oversized named formed b) = absurd (is_named tree line named a)
+one_cause tree line other (misshapen named a) (misnamed b) = absurd (is_named tree other named b)
+one_cause tree line other (misshapen named a) (misshapen again b) = one_bad_form tree line other a b
+one_cause tree line other (misshapen named a) (oversized again formed b) = absurd (is_formed tree line formed a)
+one_cause tree line other (oversized named formed a) (misnamed b) = absurd (is_named tree other named b)
+one_cause tree line other (oversized named formed a) (misshapen again b) = absurd (is_formed tree other formed b)
+one_cause tree line other (oversized named formed a) (oversized again too b) = one_excess (piped_size (shaped tree)) line other a b
+
+is_accepted : (tree : Program) (line : List ℕ) → IsAccepted tree → IsNotAccepted tree line → ⊥
+is_accepted tree line accepted (misnamed a) = is_named tree line accepted.named a
+is_accepted tree line accepted (misshapen named a) = is_formed tree line accepted.formed a
+is_accepted tree line accepted (oversized named formed a) = no_excess (piped_size (shaped tree)) line accepted.within a
 
 -- ---- one reading
 
@@ -103,24 +149,23 @@ not_refused : SplitsOnce → SplitIsNotBad → AnswersOnce → (text : List ℕ)
 not_refused once good answers text tree line right (no_tokens bad) = good text right.0.list.tokens right.0.list.end bad.place bad.fault right.0.tokens bad.first
 not_refused once good answers text tree line right (no_source list tokens refused) =
     no_tree answers list tree line (subst (λ l. IsSource l tree) (same_tokens once text right.0.list list right.0.tokens tokens) right.0.source) refused
-not_refused once good answers text tree line right (fails other is failure) =
-    let same = one_tree once answers text other tree is right.0 in
-    no_answer failure.answer (sym right.1 ∙ ap (λ t. first_refusal (demands t)) (sym same) ∙ failure.first)
+not_refused once good answers text tree line right (not_accepted other is cause) =
+    is_accepted tree line right.1 (subst (λ t. IsNotAccepted t line) (one_tree once answers text other tree is right.0) cause)
 
 one_line : SplitsOnce → IsBadOnce → SplitIsNotBad → AnswersOnce → (text line other : List ℕ) → IsRefusedSource text line → IsRefusedSource text other → line ≡ other
 one_line once bad good answers text line other (no_tokens a) (no_tokens b) = one_bad_line bad text line other a b
 one_line once bad good answers text line other (no_tokens a) (no_source list tokens q) = absurd (good text list.tokens list.end a.place a.fault tokens a.first)
-one_line once bad good answers text line other (no_tokens a) (fails tree is q) = absurd (good text is.list.tokens is.list.end a.place a.fault is.tokens a.first)
+one_line once bad good answers text line other (no_tokens a) (not_accepted tree is q) = absurd (good text is.list.tokens is.list.end a.place a.fault is.tokens a.first)
 one_line once bad good answers text line other (no_source list tokens p) (no_tokens b) = absurd (good text list.tokens list.end b.place b.fault tokens b.first)
 one_line once bad good answers text line other (no_source list tokens p) (no_source more these q) =
     one_refusal answers list line other p (subst (λ l. IsNoSource l other) (same_tokens once text more list these tokens) q)
-one_line once bad good answers text line other (no_source list tokens p) (fails tree is q) =
+one_line once bad good answers text line other (no_source list tokens p) (not_accepted tree is q) =
     absurd (no_tree answers list tree line (subst (λ l. IsSource l tree) (same_tokens once text is.list list is.tokens tokens) is.source) p)
-one_line once bad good answers text line other (fails tree is p) (no_tokens b) = absurd (good text is.list.tokens is.list.end b.place b.fault is.tokens b.first)
-one_line once bad good answers text line other (fails tree is p) (no_source list tokens q) =
+one_line once bad good answers text line other (not_accepted tree is p) (no_tokens b) = absurd (good text is.list.tokens is.list.end b.place b.fault is.tokens b.first)
+one_line once bad good answers text line other (not_accepted tree is p) (no_source list tokens q) =
     absurd (no_tree answers list tree other (subst (λ l. IsSource l tree) (same_tokens once text is.list list is.tokens tokens) is.source) q)
-one_line once bad good answers text line other (fails tree is p) (fails that it q) =
-    one_failure tree line other p (subst (λ t. FailsDemand t other) (one_tree once answers text that tree it is) q)
+one_line once bad good answers text line other (not_accepted tree is p) (not_accepted that it q) =
+    one_cause tree line other p (subst (λ t. IsNotAccepted t other) (one_tree once answers text that tree it is) q)
 
 pub one_program_reading : SplitsOnce → IsBadOnce → SplitIsNotBad → AnswersOnce → ProgramsHaveOneReading
 one_program_reading once bad good answers text (Ok a) (Ok b) p q = ap Ok (one_tree once answers text a b p.0 q.0)
@@ -137,18 +182,35 @@ refused_tokens list (parse.TooDeep place) line is told says = too_deep place is 
 refused_tokens list (parse.Unsupported name place) line is told says = unsupported name place is says
 refused_tokens list parse.Memory line is told says = absurd (told refl)
 
-pub no_tokens_read : (text : List ℕ) (why : Stop) → GivesMeaning (λ (list : TokenList). list) (Err why) (ReadsTokens text) → GivesMeaning (λ (tree : Program). tree) (Err why) (ReadsProgram text)
+pub no_tokens_read : (text : List ℕ) (why : Stop) → GivesMeaning (λ (list : TokenList). list) (Err why) (ReadsTokens text) → GivesMeaning (λ (s : Source). s.tree) (Err why) (ReadsProgram text)
 no_tokens_read text (stop.Refused line) bad = no_tokens bad
 no_tokens_read text stop.ReadFault bad = bad
 no_tokens_read text stop.Memory bad = tt
 
-pub no_tree_read : (text : List ℕ) (list : TokenList) (why : Stop) → HasTokens text list → GivesMeaning (λ (tree : Program). tree) (Err why) (ReadsTree list) → GivesMeaning (λ (tree : Program). tree) (Err why) (ReadsProgram text)
+pub no_tree_read : (text : List ℕ) (list : TokenList) (why : Stop) → HasTokens text list → GivesMeaning (λ (tree : Program). tree) (Err why) (ReadsTree list) → GivesMeaning (λ (s : Source). s.tree) (Err why) (ReadsProgram text)
 no_tree_read text list (stop.Refused line) tokens refused = no_source list tokens refused
 no_tree_read text list stop.ReadFault tokens refused = refused
 no_tree_read text list stop.Memory tokens refused = tt
 
-pub demand_fails : (text : List ℕ) (list : TokenList) (tree : Program) (why : Stop) → HasTokens text list → IsSource list tree → GivesMeaning (λ (done : Unit {0}). done) (Err why) (MeetsDemands tree)
-    → GivesMeaning (λ (tree : Program). tree) (Err why) (ReadsProgram text)
-demand_fails text list tree (stop.Refused line) tokens source failure = fails tree (record { list = list; tokens = tokens; source = source }) failure
-demand_fails text list tree stop.ReadFault tokens source failure = failure
-demand_fails text list tree stop.Memory tokens source failure = tt
+pub demand_fails : (text : List ℕ) (tree : Program) (why : Stop) → IsTextOfTree text tree → GivesMeaning (λ (done : Unit {0}). done) (Err why) (MeetsDemands tree)
+    → GivesMeaning (λ (s : Source). s.tree) (Err why) (ReadsProgram text)
+demand_fails text tree (stop.Refused line) is failure = not_accepted tree is (misnamed failure)
+demand_fails text tree stop.ReadFault is failure = failure
+demand_fails text tree stop.Memory is failure = tt
+
+pub form_fails : (text : List ℕ) (tree : Program) (why : Stop) → IsTextOfTree text tree → first_refusal (demands tree) ≡ None
+    → GivesMeaning (λ (piped : Piped). piped) (Err why) (ReadsBlocks tree) → GivesMeaning (λ (s : Source). s.tree) (Err why) (ReadsProgram text)
+form_fails text tree (stop.Refused line) is named failure = not_accepted tree is (misshapen named failure)
+form_fails text tree stop.ReadFault is named failure = failure
+form_fails text tree stop.Memory is named failure = tt
+
+pub size_fails : (text : List ℕ) (tree : Program) (piped : Piped) (why : Stop) → IsTextOfTree text tree → first_refusal (demands tree) ≡ None → IsShaped tree piped
+    → GivesMeaning (λ (flat : Flat). flat) (Err why) (ReadsFlat piped) → GivesMeaning (λ (s : Source). s.tree) (Err why) (ReadsProgram text)
+size_fails text tree piped (stop.Refused line) is named shape over =
+    not_accepted tree is (oversized named shape.holds (subst (λ p. IsOver (piped_size p) line) shape.is over))
+size_fails text tree piped stop.ReadFault is named shape over = over
+size_fails text tree piped stop.Memory is named shape over = tt
+
+pub accepted_tree : (tree : Program) (piped : Piped) → first_refusal (demands tree) ≡ None → IsShaped tree piped → IsSmall (piped_size piped) → IsAccepted tree
+accepted_tree tree piped named shape within =
+    record { named = named; formed = shape.holds; within = subst (λ p. IsSmall (piped_size p)) shape.is within }

@@ -10,16 +10,19 @@ use Rattle.df_iotext.specs.Inputs.{ReadsInputs, HaveOwnNames}
 use Rattle.df_iotext.specs.Schedules.{ReadsSchedule}
 use Rattle.df_iotext.specs.Laws.{InputsHaveOneReading, InputsHaveReadings, SchedulesHaveOneReading, SchedulesHaveReadings}
 use Rattle.df_iotext.specs.declared.inputs.InputAnswer.{InputAnswer}
-use Rattle.df_top.specs.Laws.{CellFilesHaveOneReading, CellFilesHaveReadings, DualFilesHaveOneReading, DualFilesHaveReadings, ProgramsHaveOneReading, HasOneVerdict, HasSomeVerdict}
+use Rattle.df_top.specs.Laws.{AcceptedSourcesBindNewNames, CellFilesHaveOneReading, CellFilesHaveReadings, DualFilesHaveOneReading, DualFilesHaveReadings, ProgramsHaveOneReading, HasOneVerdict, HasSomeVerdict}
 use Rattle.df_top.specs.Lines.{refusal}
-use Rattle.df_top.specs.Meanings.{decls_of}
-use Rattle.df_top.specs.Orders.{Check, Go, Run, Verify}
+use Rattle.df_top.specs.Meanings.{decls_of, decls_by}
+use Rattle.df_top.specs.Orders.{Check, Eval, Go, Run, Verify}
 use Rattle.df_top.specs.ProgramTexts.{ReadsProgram}
 use Rattle.df_top.specs.Sources.{ReadsSource}
 use Rattle.df_top.specs.Texts.{input_reason, and_word, ReadsInputText, ReadsScheduleText, ReadsCellFile, ReadsDualFile}
-use Rattle.df_top.specs.Verdicts.{Verdict, Refused, Accepted, Task, TellRight, CompileAndRun, RunCells, TellLeast, AfterText, AfterRead, Goes, JudgesRun, JudgesGo, JudgesCells, JudgesDual, JudgesProgram, text_at, texts_at, pair_at, source_limit, cells_limit}
+use Rattle.df_top.specs.Verdicts.{Verdict, Refused, Accepted, Task, TellRight, TellMeaning, CompileAndRun, RunCells, TellLeast, AfterText, AfterRead, Goes, JudgesRun, JudgesGo, JudgesCells, JudgesDual, JudgesEval, JudgesProgram, text_at, texts_at, sources_at, duals_at, source_limit, cells_limit}
+use Rattle.df_syntax.specs.SourceMeaning.{source_inputs}
+use Rattle.df_syntax.specs.declared.program.Program.{Program as Tree}
 use Rattle.df_top.specs.declared.program.Program.{Program}
 use Rattle.df_top.proofs.OwnNames.{cells_names, one_name}
+use Rattle.df_top.proofs.SourcesMeant.{own_names}
 use Rattle.df_top.proofs.SourceTexts.{one_source}
 
 -- ---- one reading
@@ -125,18 +128,33 @@ one_pair one_cells one_dual cells dual v w =
     one_after_text (ReadsCellFile cells) v w (dual_asked dual) (one_cells cells)
     (λ list read. one_after_text (ReadsDualFile list dual) v w (told_of list) (λ r s. one_dual list dual r s read.1) (λ flow certified p q. p ∙ sym q))
 
-pub one_verdict : InputsHaveOneReading → SchedulesHaveOneReading → CellFilesHaveOneReading → DualFilesHaveOneReading → ProgramsHaveOneReading → HasOneVerdict
-one_verdict one_input one_schedule one_cells one_dual one_program (Check source) holds v w =
+-- what is asked once the inputs of a source were read, and once the source was
+abbrev pub meaning_told : Tree → Verdict → List (List Value) → Type 0
+meaning_told tree v inputs = v ≡ Accepted (TellMeaning tree inputs)
+
+abbrev pub meaning_asked : List ℕ → Verdict → Tree → Type 0
+meaning_asked input v tree = AfterText (ReadsInputText (decls_by (source_inputs tree)) input) v (meaning_told tree v)
+
+one_meaning : InputsHaveOneReading → ProgramsHaveOneReading → AcceptedSourcesBindNewNames → (source input : List ℕ) (v w : Verdict) → JudgesEval source input v → JudgesEval source input w → v ≡ w
+one_meaning one_input one_program new source input v w =
+    one_after_text (ReadsProgram source) v w (meaning_asked input) (one_program source)
+    (λ tree read. one_after_text (ReadsInputText (decls_by (source_inputs tree)) input) v w (meaning_told tree)
+    (one_input_reading one_input (decls_by (source_inputs tree)) (own_names tree (new source tree read)) input) (λ inputs given p q. p ∙ sym q))
+
+pub one_verdict : InputsHaveOneReading → SchedulesHaveOneReading → CellFilesHaveOneReading → DualFilesHaveOneReading → ProgramsHaveOneReading → AcceptedSourcesBindNewNames → HasOneVerdict
+one_verdict one_input one_schedule one_cells one_dual one_program new (Check source) holds v w =
     one_after_read (text_at holds source source_limit (codes "source")) v w (λ u text. JudgesProgram text u)
     (λ text. one_after_text (ReadsProgram text) v w (λ u tree. u ≡ Accepted TellRight) (one_program text) (λ tree read p q. p ∙ sym q))
-one_verdict one_input one_schedule one_cells one_dual one_program (Go source input schedule cells dual) holds v w =
+one_verdict one_input one_schedule one_cells one_dual one_program new (Eval source input) holds v w =
+    one_after_read (sources_at holds source input) v w (λ u texts. JudgesEval texts.first texts.second u) (λ texts. one_meaning one_input one_program new texts.first texts.second v w)
+one_verdict one_input one_schedule one_cells one_dual one_program new (Go source input schedule cells dual) holds v w =
     one_after_read (texts_at holds source source_limit (codes "source") input schedule) v w (λ u texts. JudgesGo texts.first texts.input texts.schedule cells dual u)
     (λ texts. one_go one_input one_schedule texts.first texts.input texts.schedule cells dual v w)
-one_verdict one_input one_schedule one_cells one_dual one_program (Run cells input schedule) holds v w =
+one_verdict one_input one_schedule one_cells one_dual one_program new (Run cells input schedule) holds v w =
     one_after_read (texts_at holds cells cells_limit (codes "cells") input schedule) v w (λ u texts. JudgesCells texts.first texts.input texts.schedule u)
     (λ texts. one_file one_input one_schedule one_cells texts.first texts.input texts.schedule v w)
-one_verdict one_input one_schedule one_cells one_dual one_program (Verify cells dual) holds v w =
-    one_after_read (pair_at holds cells dual) v w (λ u texts. JudgesDual texts.cells texts.dual u) (λ texts. one_pair one_cells one_dual texts.cells texts.dual v w)
+one_verdict one_input one_schedule one_cells one_dual one_program new (Verify cells dual) holds v w =
+    one_after_read (duals_at holds cells dual) v w (λ u texts. JudgesDual texts.first texts.second u) (λ texts. one_pair one_cells one_dual texts.first texts.second v w)
 
 -- ---- there is a verdict
 
@@ -181,6 +199,7 @@ some_run some_input some_schedule decls input schedule task =
 
 pub some_verdict : InputsHaveReadings → SchedulesHaveReadings → CellFilesHaveReadings → DualFilesHaveReadings → HasSomeVerdict
 some_verdict some_input some_schedule some_cells some_dual (Check source) holds needs = absurd needs
+some_verdict some_input some_schedule some_cells some_dual (Eval source input) holds needs = absurd needs
 some_verdict some_input some_schedule some_cells some_dual (Go source input schedule cells dual) holds needs =
     some_after_read (texts_at holds source source_limit (codes "source") input schedule) (λ u texts. JudgesGo texts.first texts.input texts.schedule cells dual u)
     (λ texts. some_after_text (ReadsSource texts.first) (program_asked texts.input texts.schedule cells dual) (some_source_reading texts.first)
@@ -190,6 +209,6 @@ some_verdict some_input some_schedule some_cells some_dual (Run cells input sche
     (λ texts. some_after_text (ReadsCellFile texts.first) (cells_asked texts.input texts.schedule) (some_cells texts.first)
     (λ list read. some_run some_input some_schedule (inputs_of list) texts.input texts.schedule (λ inputs choices. RunCells list inputs choices)))
 some_verdict some_input some_schedule some_cells some_dual (Verify cells dual) holds needs =
-    some_after_read (pair_at holds cells dual) (λ u texts. JudgesDual texts.cells texts.dual u)
-    (λ texts. some_after_text (ReadsCellFile texts.cells) (dual_asked texts.dual) (some_cells texts.cells)
-    (λ list read. some_after_text (ReadsDualFile list texts.dual) (told_of list) (some_dual list texts.dual read.1) (λ flow certified none. none (Accepted (TellLeast list)) refl)))
+    some_after_read (duals_at holds cells dual) (λ u texts. JudgesDual texts.first texts.second u)
+    (λ texts. some_after_text (ReadsCellFile texts.first) (dual_asked texts.second) (some_cells texts.first)
+    (λ list read. some_after_text (ReadsDualFile list texts.second) (told_of list) (some_dual list texts.second read.1) (λ flow certified none. none (Accepted (TellLeast list)) refl)))

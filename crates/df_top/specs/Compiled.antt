@@ -17,7 +17,9 @@ use Rattle.df_top.specs.Meanings.{inputs_of, mean}
 use Rattle.df_dual_check.specs.DualTexts.{dual_text}
 use Rattle.df_stages.specs.Skeletons.{arcs}
 use Rattle.df_top.specs.Effects.{Effect}
-use Rattle.df_top.specs.Verdicts.{Task, TellRight, CompileAndRun, RunCells, TellLeast}
+use Rattle.df_syntax.specs.SourceMeaning.{source_mean}
+use Rattle.df_iotext.specs.Printed.{result_lines}
+use Rattle.df_top.specs.Verdicts.{Task, TellRight, TellMeaning, CompileAndRun, RunCells, TellLeast}
 use Rattle.df_stages.specs.Balance.{IsBalanced, IsLeast}
 use Rattle.df_top.specs.Reports.{report_text, least_text}
 use Rattle.df_top.specs.Lines.{line}
@@ -49,6 +51,8 @@ run_of cells inputs schedule = report cells inputs (choices_of schedule)
 -- What may be written for a task. One list of cells stands for the files, the text and the status.
 abbrev pub MayDo : Task → Effect → Type 0
 MayDo TellRight effect = effect ≡ record { files = []; text = line (codes "ok"); is_done = true }
+-- the lists of the results, as the report of a run has them
+MayDo (TellMeaning tree inputs) effect = effect ≡ record { files = []; text = result_lines 1 (source_mean tree inputs); is_done = true }
 MayDo (CompileAndRun program inputs schedule cells_name dual_name) effect =
     (cells : List Cell) × IsCompiled program cells
     × (effect ≡ record {

@@ -49,4 +49,4 @@ abbrev pub texts_meant : TextsRead → Texts
 texts_meant texts = record { first = texts.first; input = texts.input; schedule = texts.schedule }
 
 abbrev pub pair_meant : PairRead → Pair
-pair_meant texts = record { cells = texts.cells; dual = texts.dual }
+pair_meant texts = record { first = texts.first; second = texts.second }

@@ -1,14 +1,15 @@
 -- What is promised of the cells of every program, and of the verdict.
-use Rattle.std.specs.Prelude.{◌≡◌, ℕ, List, Result, codes}
+use Rattle.std.specs.Prelude.{◌≡◌, ℕ, List, Result, Ok, IsTrue, codes}
 use Rattle.df_io.specs.Told.{Holds}
 use Rattle.df_cells.specs.declared.cells.Cell.{Cell}
 use Rattle.df_machine.specs.ThreeCells.{three_cells}
 use Rattle.df_top.specs.Compiled.{IsFaithful}
-use Rattle.df_top.specs.Orders.{Order, Check}
+use Rattle.df_top.specs.Orders.{Order, Check, Eval}
 use Rattle.df_top.specs.Ready.{IsWithin}
 use Rattle.df_top.specs.Texts.{ReadsCellFile, ReadsDualFile}
 use Rattle.df_top.specs.Verdicts.{Verdict, Judges}
 use Rattle.df_cells.specs.WellFormed.{WellFormed}
+use Rattle.df_syntax.specs.FreshNames.{names_are_new}
 use Rattle.df_syntax.specs.declared.program.Program.{Program as Tree}
 use Rattle.df_top.specs.ProgramTexts.{ReadsProgram}
 use Rattle.df_top.specs.declared.program.Program.{Program}
@@ -24,6 +25,7 @@ HasOneVerdict = (order : Order) (holds : Holds) (v w : Verdict) → Judges order
 -- the command is none whose text is a source of any form
 abbrev pub NeedsNoTokens : Order → Type 0
 NeedsNoTokens (Check source) = ⊥
+NeedsNoTokens (Eval source input) = ⊥
 NeedsNoTokens _ = Unit {0}
 
 -- it can't be that there is none
@@ -50,3 +52,7 @@ DualFilesHaveReadings = (cells : List Cell) (text : List ℕ) → WellFormed cel
 -- the text of a source has one reading at most
 abbrev pub ProgramsHaveOneReading : Type 0
 ProgramsHaveOneReading = (text : List ℕ) (one other : Result Tree (List ℕ)) → ReadsProgram text one → ReadsProgram text other → one ≡ other
+
+-- the names that an accepted source binds in its functions are new where it binds them
+abbrev pub AcceptedSourcesBindNewNames : Type 0
+AcceptedSourcesBindNewNames = (text : List ℕ) (tree : Tree) → ReadsProgram text (Ok tree) → IsTrue (names_are_new tree)

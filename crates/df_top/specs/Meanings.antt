@@ -10,7 +10,13 @@ use Rattle.df_values.specs.Tables.{answer}
 use Rattle.df_values.specs.Inputs.{Declaration}
 use Rattle.df_cells.specs.declared.cells.InputDecl.{InputDecl}
 use Rattle.df_cells.specs.Cells.{declaration_of}
+use Rattle.df_syntax.specs.declared.piped.Input.{Input}
+use Rattle.df_syntax.specs.SourceMeaning.{input_length}
 use Rattle.df_top.specs.declared.program.Program.{Program}
+
+-- what is declared of each parameter: its name, its type and how many values it has
+abbrev pub decls_by : List Input → List InputDecl
+decls_by = map (λ (i : Input). record { name = i.name; basic = i.basic; length = input_length i.extent })
 
 -- the one input, the array A
 abbrev pub decls_of : Program → List InputDecl

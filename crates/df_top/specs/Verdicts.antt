@@ -7,18 +7,21 @@ use Rattle.df_cells.specs.declared.cells.Cell.{Cell}
 use Rattle.df_cells.specs.declared.cells.InputDecl.{InputDecl}
 use Rattle.df_cells.specs.declared.schedules.Schedule.{Schedule}
 use Rattle.df_cells.specs.Cells.{inputs_of}
+use Rattle.df_syntax.specs.declared.program.Program.{Program as Tree}
+use Rattle.df_syntax.specs.SourceMeaning.{source_inputs}
 use Rattle.df_top.specs.declared.program.Program.{Program}
-use Rattle.df_top.specs.Orders.{Order, Check, Go, Run, Verify}
+use Rattle.df_top.specs.Orders.{Order, Check, Eval, Go, Run, Verify}
 use Rattle.df_top.specs.Lines.{refusal}
-use Rattle.df_top.specs.Meanings.{decls_of}
+use Rattle.df_top.specs.Meanings.{decls_of, decls_by}
 use Rattle.df_top.specs.ProgramTexts.{ReadsProgram}
 use Rattle.df_top.specs.Sources.{ReadsSource}
 use Rattle.df_top.specs.Texts.{ReadsInputText, ReadsScheduleText, ReadsCellFile, ReadsDualFile}
 
--- What the texts of a command ask for, once none of them is refused: that a source is told to be right, that a program is compiled and its cells are run and written,
--- that cells are run, or that it is told of cells that their buffers are balanced and least.
+-- What the texts of a command ask for, once none of them is refused: that a source is told to be right, that its meaning is told under some inputs, that a program is
+-- compiled and its cells are run and written, that cells are run, or that it is told of cells that their buffers are balanced and least.
 pub data Task : Type 0 where
   TellRight : Task
+  TellMeaning : (tree : Tree) (inputs : List (List Value)) → Task
   CompileAndRun : (program : Program) (inputs : List (List Value)) (schedule : Schedule) (cells dual : List ℕ) → Task
   RunCells : (cells : List Cell) (inputs : List (List Value)) (schedule : Schedule) → Task
   TellLeast : (cells : List Cell) → Task
@@ -71,18 +74,21 @@ abbrev pub texts_at : Holds → (first : List ℕ) → (limit : ℕ) → (label 
 texts_at holds first limit label input schedule =
     all_three (text_at holds first limit label) (text_at holds input text_limit (codes "input")) (text_at holds schedule text_limit (codes "schedule"))
 
--- cells and a flow
+-- two texts: a source and an input, or cells and a flow
 pub record Pair : Type 0 where
-  pub cells : List ℕ
-  pub dual : List ℕ
+  pub first : List ℕ
+  pub second : List ℕ
 
 abbrev pub both : Result (List ℕ) Verdict → Result (List ℕ) Verdict → Result Pair Verdict
-both (Ok cells) (Ok dual) = Ok (record { cells = cells; dual = dual })
-both (Err barred) dual = Err barred
-both (Ok cells) (Err barred) = Err barred
+both (Ok first) (Ok second) = Ok (record { first = first; second = second })
+both (Err barred) second = Err barred
+both (Ok first) (Err barred) = Err barred
 
-abbrev pub pair_at : Holds → (cells dual : List ℕ) → Result Pair Verdict
-pair_at holds cells dual = both (text_at holds cells cells_limit (codes "cells")) (text_at holds dual dual_limit (codes "dual"))
+abbrev pub sources_at : Holds → (source input : List ℕ) → Result Pair Verdict
+sources_at holds source input = both (text_at holds source source_limit (codes "source")) (text_at holds input text_limit (codes "input"))
+
+abbrev pub duals_at : Holds → (cells dual : List ℕ) → Result Pair Verdict
+duals_at holds cells dual = both (text_at holds cells cells_limit (codes "cells")) (text_at holds dual dual_limit (codes "dual"))
 
 -- The verdict is v where the reads give it. Else it is what `next` says of the texts.
 abbrev pub AfterRead : {A : Type 0} → Result A Verdict → Verdict → (A → Type 0) → Type 0
@@ -122,6 +128,12 @@ JudgesCells cells input schedule v =
 abbrev pub JudgesProgram : (source : List ℕ) → Verdict → Type 0
 JudgesProgram source v = AfterText (ReadsProgram source) v (λ tree. v ≡ Accepted TellRight)
 
+abbrev pub JudgesEval : (source input : List ℕ) → Verdict → Type 0
+JudgesEval source input v =
+    AfterText (ReadsProgram source) v (λ tree.
+    AfterText (ReadsInputText (decls_by (source_inputs tree)) input) v (λ inputs.
+    v ≡ Accepted (TellMeaning tree inputs)))
+
 abbrev pub JudgesDual : (cells dual : List ℕ) → Verdict → Type 0
 JudgesDual cells dual v =
     AfterText (ReadsCellFile cells) v (λ list.
@@ -130,8 +142,9 @@ JudgesDual cells dual v =
 
 abbrev pub Judges : Order → Holds → Verdict → Type 0
 Judges (Check source) holds v = AfterRead (text_at holds source source_limit (codes "source")) v (λ text. JudgesProgram text v)
+Judges (Eval source input) holds v = AfterRead (sources_at holds source input) v (λ texts. JudgesEval texts.first texts.second v)
 Judges (Go source input schedule cells dual) holds v =
     AfterRead (texts_at holds source source_limit (codes "source") input schedule) v (λ texts. JudgesGo texts.first texts.input texts.schedule cells dual v)
 Judges (Run cells input schedule) holds v =
     AfterRead (texts_at holds cells cells_limit (codes "cells") input schedule) v (λ texts. JudgesCells texts.first texts.input texts.schedule v)
-Judges (Verify cells dual) holds v = AfterRead (pair_at holds cells dual) v (λ texts. JudgesDual texts.cells texts.dual v)
+Judges (Verify cells dual) holds v = AfterRead (duals_at holds cells dual) v (λ texts. JudgesDual texts.first texts.second v)

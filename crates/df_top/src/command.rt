@@ -8,9 +8,14 @@ ghost use Rattle.df_top.specs.Words.{order_meant};
 /// A command with the names of its files.
 #[derive(Clone, Copy)]
 pub enum Command<'a> {
-    /// Tells of a source that its names and types are right.
+    /// Tells of a source that it is accepted.
     Check {
         source: &'a String,
+    },
+    /// Tells what a source means under its inputs.
+    Eval {
+        source: &'a String,
+        input: &'a String,
     },
     /// Compiles a source and runs its cells.
     Go {
@@ -56,11 +61,20 @@ fn check_of<'a>(word: &String, source: &'a String) -> Option<Command<'a>>
     }
 }
 
-fn verify_of<'a>(word: &String, cells: &'a String, dual: &'a String) -> Option<Command<'a>>
-    ensures { option_map order_meant result ≡ order_of (string_bytes word.now ∷ string_bytes cells.now ∷ string_bytes dual.now ∷ []) }
+// A command with two files.
+fn pair_of<'a>(word: &String, first: &'a String, second: &'a String) -> Option<Command<'a>>
+    ensures { option_map order_meant result ≡ order_of (string_bytes word.now ∷ string_bytes first.now ∷ string_bytes second.now ∷ []) }
 {
-    if is_word(word, "verify") {
-        Some(Command::Verify { cells, dual })
+    if is_word(word, "eval") {
+        Some(Command::Eval {
+            source: first,
+            input: second,
+        })
+    } else if is_word(word, "verify") {
+        Some(Command::Verify {
+            cells: first,
+            dual: second,
+        })
     } else {
         None
     }
@@ -124,7 +138,7 @@ pub fn command_of(words: &[String]) -> Option<Command<'_>>
 {
     match words {
         [word, source] => check_of(word, source),
-        [word, cells, dual] => verify_of(word, cells, dual),
+        [word, first, second] => pair_of(word, first, second),
         [word, cells, input, schedule] => run_of(word, cells, input, schedule),
         [word, source, input, schedule, cells, dual] => {
             go_of(word, source, input, schedule, cells, dual)

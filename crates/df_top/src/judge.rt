@@ -47,8 +47,8 @@ fn judge_source(alloc: Global, text: &[u8]) -> Result<Program, Stop>
     }
 }
 
-// The inputs that are declared.
-fn judge_input(alloc: Global, text: &[u8], decls: &Vec<InputDecl>) -> Result<Streams, Stop>
+/// The inputs that are declared.
+pub fn judge_input(alloc: Global, text: &[u8], decls: &Vec<InputDecl>) -> Result<Streams, Stop>
     requires names { HaveOwnNames decls.now.items }
     requires short { length text.now ≤ 4294967294 }
     ensures gives { GivesMeaning (λ inputs. inputs.lists) result (ReadsInputText decls.now.items text.now) }
@@ -146,7 +146,7 @@ pub fn judged_program<'a>(
     requires { length input.now ≤ 4294967294 }
     ensures finds { Finds (JudgesGo source.now input.now schedule.now (string_bytes cells.now) (string_bytes dual.now)) result }
     ensures no_fault { IsErrOf result Stop.ReadFault → ⊥ }
-    ensures ready { IfOk result (λ task. IsReady (task_meant task)) }
+    ensures ready { IfOk result (λ task. IsReady task) }
 {
     let program = judge_source(alloc, source)?;
     let decls = inputs_of_program(alloc, &program)?;
@@ -170,7 +170,7 @@ pub fn judged_cells<'a>(
     requires { length input.now ≤ 4294967294 }
     ensures finds { Finds (JudgesCells cells.now input.now schedule.now) result }
     ensures no_fault { IsErrOf result Stop.ReadFault → ⊥ }
-    ensures ready { IfOk result (λ task. IsReady (task_meant task)) }
+    ensures ready { IfOk result (λ task. IsReady task) }
 {
     let cells = judge_cells(alloc, cells)?;
     let decls = cells.inputs()?;
@@ -205,7 +205,7 @@ fn judge_dual(alloc: Global, text: &[u8], cells: &Cells) -> Result<Flow, Stop>
 pub fn judged_dual<'a>(alloc: Global, cells: &[u8], dual: &[u8]) -> Result<Task<'a>, Stop>
     ensures finds { Finds (JudgesDual cells.now dual.now) result }
     ensures no_fault { IsErrOf result Stop.ReadFault → ⊥ }
-    ensures ready { IfOk result (λ task. IsReady (task_meant task)) }
+    ensures ready { IfOk result (λ task. IsReady task) }
 {
     let cells = judge_cells(alloc, cells)?;
     certifies_least();

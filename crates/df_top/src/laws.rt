@@ -1,5 +1,5 @@
 //! What follows from the definitions of the verdict alone: each call does nothing, and its contract is a law.
-ghost use Rattle.df_top.specs.Laws.{CellFilesHaveOneReading, CellFilesHaveReadings, DualFilesHaveOneReading, DualFilesHaveReadings, HasOneVerdict, HasSomeVerdict, ProgramsHaveOneReading};
+ghost use Rattle.df_top.specs.Laws.{AcceptedSourcesBindNewNames, CellFilesHaveOneReading, CellFilesHaveReadings, DualFilesHaveOneReading, DualFilesHaveReadings, HasOneVerdict, HasSomeVerdict, ProgramsHaveOneReading};
 
 use df_celltext::laws::{has_one_first_wrong_line, is_read_or_wrong, text_tells_the_cells};
 use df_dual_check::laws::{
@@ -12,8 +12,9 @@ use df_iotext::laws::{
 };
 use df_syntax::laws::{
     text_has_one_first_bad_place, text_has_one_split, text_with_tokens_has_no_bad_place,
-    tokens_have_one_answer,
+    tokens_have_one_answer, trees_are_well_built,
 };
+use df_types::laws::accepted_names_are_new;
 use df_wellformed::laws::{fails_once, refuses_all_bad, refuses_only_bad};
 
 /// The text of a cell file is that of well-formed cells, or is refused by one line, and not both.
@@ -52,7 +53,7 @@ pub fn dual_files_have_readings()
     others_fail();
 }
 
-/// The text of a source is that of one tree whose names and types are right, or is refused by one line, and not both.
+/// The text of a source is that of one accepted tree, or is refused by one line, and not both.
 pub fn programs_have_one_reading()
     ensures { ProgramsHaveOneReading }
 {
@@ -60,6 +61,14 @@ pub fn programs_have_one_reading()
     text_has_one_first_bad_place();
     text_with_tokens_has_no_bad_place();
     tokens_have_one_answer();
+}
+
+/// The names that an accepted source binds in its functions are new where it binds them.
+pub fn accepted_sources_bind_new_names()
+    ensures { AcceptedSourcesBindNewNames }
+{
+    trees_are_well_built();
+    accepted_names_are_new();
 }
 
 /// There is at most one verdict on a command and what the files hold.
@@ -71,6 +80,7 @@ pub fn has_one_verdict()
     cell_files_have_one_reading();
     dual_files_have_one_reading();
     programs_have_one_reading();
+    accepted_sources_bind_new_names();
 }
 
 /// There is at least one: it can't be that nothing is the verdict.

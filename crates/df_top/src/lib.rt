@@ -1,7 +1,7 @@
 //! The commands: what is read and refused, what is written, and with which status a call ends.
 //!
-//! `valflow` is the top call. It reads and judges all texts first (`command`, `reads`, `judge` and the readers of texts below
-//! it), then compiles and runs (`planned`), and writes last (`writes`). Its contract says, of the bytes under each name, which status comes
+//! `valflow` is the top call. It reads and judges all texts first (`command`, `reads`, `judge`, `programs` and the readers of texts below
+//! them), then evaluates, or compiles and runs (`planned`), and writes last (`writes`). Its contract says, of the bytes under each name, which status comes
 //! exactly when, and what stands then.
 #![tactic(auto)]
 
@@ -9,6 +9,7 @@ mod command;
 pub mod compile;
 mod judge;
 pub mod laws;
+mod meaning;
 mod plan;
 mod planned;
 pub mod program;
@@ -27,16 +28,3 @@ mod writes;
 
 pub use status::Status;
 pub use top::valflow;
-
-#[cfg(test)]
-mod check_tests;
-#[cfg(test)]
-mod least_tests;
-#[cfg(test)]
-mod machine_tests;
-#[cfg(test)]
-mod schedule_tests;
-#[cfg(test)]
-mod tests;
-#[cfg(test)]
-mod text_tests;

@@ -2,6 +2,8 @@
 use crate::program::Program;
 use df_cells::cells::Cells;
 use df_cells::schedules::Schedule;
+use df_syntax::piped::Flat;
+use df_syntax::program::Program as Tree;
 use df_values::bytes::Bytes;
 use df_values::streams::Streams;
 
@@ -10,6 +12,12 @@ use df_values::streams::Streams;
 pub enum Task<'a> {
     /// Tell that the source is right.
     TellRight,
+    /// Tell what the source of this tree means under the inputs, by its program without calls.
+    TellMeaning {
+        tree: Tree,
+        flat: Flat,
+        inputs: Streams,
+    },
     /// Compile the program, and run its cells on the inputs by the schedule.
     CompileAndRun {
         program: Program,

@@ -1,5 +1,5 @@
 //! What a task writes.
-ghost use Rattle.std.specs.Prelude.{◌≡◌, string_bytes, IfOk};
+ghost use Rattle.std.specs.Prelude.{◌≡◌, [], true, string_bytes, IfOk};
 ghost use Rattle.df_cells.specs.Cells.{declarations};
 ghost use Rattle.df_cells.specs.WellFormed.{WellFormed};
 ghost use Rattle.df_top.specs.Compiled.{MayDo, run_of, unit_flow};
@@ -8,10 +8,14 @@ ghost use Rattle.df_top.specs.Ready.{IsReady, IsWithin, HasFewChoices};
 ghost use Rattle.df_top.specs.Meanings.{inputs_of};
 ghost use Rattle.df_top.specs.Verdicts.{TellRight, CompileAndRun, RunCells, TellLeast};
 ghost use Rattle.df_stages.specs.Balance.{IsBalanced, IsLeast};
+ghost use Rattle.df_iotext.specs.Printed.{result_lines};
+ghost use Rattle.df_syntax.specs.BlockMeaning.{flat_mean};
+ghost use Rattle.df_syntax.specs.WellShaped.{HaveRanges};
 ghost use Rattle.df_values.specs.Inputs.{AreValid};
 ghost use Rattle.df_top.specs.Reports.{report_text};
 
 use crate::compile::compile;
+use crate::meaning::meaning_of;
 use crate::plan::{NewFile, Plan, Task};
 use crate::program::Program;
 use crate::report::{least, report};
@@ -20,9 +24,12 @@ use df_cells::schedules::Schedule;
 use df_celltext::writer::write_cells;
 use df_dual_check::dual_text::write_dual;
 use df_histories::tracked::{Tracked, run_tracked};
+use df_inline::laws::inlining_keeps_the_meaning;
+use df_iotext::printing::print_outputs;
 use df_machine::runs::ScheduleChooser;
 use df_stages::building::skeleton;
 use df_stages::flow::Flow;
+use df_syntax::piped::Flat;
 use df_values::bytes::Bytes;
 use df_values::memory::Memory;
 use df_values::streams::Streams;
@@ -142,6 +149,20 @@ fn plan_of_right<'a>(alloc: Global) -> Result<Plan<'a>, Memory>
     })
 }
 
+// What is told of the meaning of a program without functions.
+fn plan_of_meaning<'a>(alloc: Global, flat: Flat, inputs: &Streams) -> Result<Plan<'a>, Memory>
+    requires { HaveRanges flat.blocks }
+    ensures { IfOk result (λ plan. effect_of plan
+        ≡ record { files = []; text = result_lines 1 (flat_mean flat inputs.now.lists); is_done = true }) }
+{
+    let results = meaning_of(alloc, flat, inputs)?;
+    Ok(Plan {
+        files: Vec::new(alloc),
+        text: print_outputs(alloc, &results)?,
+        is_done: true,
+    })
+}
+
 // What is told of cells whose buffers are least.
 fn plan_of_least<'a>(alloc: Global, cells: &Cells) -> Result<Plan<'a>, Memory>
     requires balanced { IsBalanced cells.now }
@@ -157,11 +178,17 @@ fn plan_of_least<'a>(alloc: Global, cells: &Cells) -> Result<Plan<'a>, Memory>
 
 /// The files and the text of a task. The only error is want of memory.
 pub fn plan_for<'a>(alloc: Global, task: Task<'a>) -> Result<Plan<'a>, Memory>
-    requires { IsReady (task_meant task) }
+    requires { IsReady task }
     ensures { IfOk result (λ plan. MayDo (task_meant task.entry) (effect_of plan)) }
 {
+    inlining_keeps_the_meaning();
     match task {
         Task::TellRight => plan_of_right(alloc),
+        Task::TellMeaning {
+            tree: _tree,
+            flat,
+            inputs,
+        } => plan_of_meaning(alloc, flat, &inputs),
         Task::CompileAndRun {
             program,
             inputs,

@@ -1,20 +1,35 @@
-//! The tree of a source, if it is right.
+//! The program of a source, if it is accepted.
 ghost use Rattle.std.specs.Prelude.{◌≡◌, ◌≤◌, length, IfOk, IsErrOf};
-ghost use Rattle.df_top.specs.ProgramTexts.{ReadsTokens, ReadsTree, MeetsDemands, ReadsProgram};
+ghost use Rattle.df_syntax.specs.WellShaped.{HaveRanges};
+ghost use Rattle.df_top.specs.ProgramTexts.{ReadsTokens, ReadsTree, MeetsDemands, ReadsBlocks, ReadsFlat, ReadsProgram};
 ghost use Rattle.df_top.specs.Verdicts.{JudgesProgram};
 ghost use Rattle.df_top.specs.Plans.{task_meant};
-ghost use Rattle.df_top.specs.Ready.{IsReady};
+ghost use Rattle.df_top.specs.Ready.{IsFlatOf, IsReady};
 ghost use Rattle.df_top.specs.Judged.{GivesMeaning, Finds};
 
+use crate::laws::accepted_sources_bind_new_names;
 use crate::plan::Task;
-use crate::source_refusals::{refused_check, refused_parse, refused_place};
+use crate::refusals::refused;
+use crate::source_refusals::{refused_check, refused_parse, refused_place, refused_shape};
 use crate::stop::Stop;
 use df_grammar::parse;
+use df_inline::{InlineAnswer, inline};
 use df_lexer::{LexAnswer, lex};
+use df_shape::shape;
+use df_syntax::piped::{Flat, Piped};
 use df_syntax::program::Program;
 use df_syntax::token::Tokens;
 use df_types::check;
 use std::alloc::Global;
+
+/// A source that is accepted.
+#[derive(Drop)]
+pub struct Source {
+    /// Its tree.
+    pub tree: Program,
+    /// Its program in blocks, with each call replaced by the body of its function.
+    pub flat: Flat,
+}
 
 // The tokens of a text.
 fn tokens_of(alloc: Global, text: &[u8]) -> Result<Tokens, Stop>
@@ -54,15 +69,42 @@ fn check_tree(alloc: Global, tree: &Program) -> Result<(), Stop>
     }
 }
 
-// The tree of a text, if its names and types are right.
-fn judge_program(alloc: Global, text: &[u8]) -> Result<Program, Stop>
-    requires { length text.now ≤ 4294967294 }
-    ensures { GivesMeaning (λ tree. tree) result (ReadsProgram text.now) }
+// A tree in blocks, if it has the form.
+fn blocks_of(alloc: Global, tree: &Program) -> Result<Piped, Stop>
+    ensures reads { GivesMeaning (λ piped. piped) result (ReadsBlocks tree.now) }
+    ensures ranges { IfOk result (λ piped. HaveRanges piped.blocks) }
 {
+    match shape(alloc, tree) {
+        Ok(piped) => Ok(piped),
+        Err(answer) => Err(Stop::Refused(refused_shape(alloc, &answer)?)),
+    }
+}
+
+// A program with its calls replaced, if it is small enough.
+fn flat_of(alloc: Global, piped: &Piped) -> Result<Flat, Stop>
+    ensures { GivesMeaning (λ flat. flat) result (ReadsFlat piped.now) }
+{
+    match inline(alloc, piped) {
+        Ok(flat) => Ok(flat),
+        Err(InlineAnswer::TooLarge) => Err(Stop::Refused(refused(alloc, "TooLarge", "")?)),
+        Err(InlineAnswer::TooTall) => Err(Stop::Refused(refused(alloc, "TooTall", "")?)),
+        Err(InlineAnswer::Memory) => Err(Stop::Memory),
+    }
+}
+
+/// The program of a text, if its names and types, its form and its sizes are right.
+pub fn judge_program(alloc: Global, text: &[u8]) -> Result<Source, Stop>
+    requires { length text.now ≤ 4294967294 }
+    ensures reads { GivesMeaning (λ source. source.tree) result (ReadsProgram text.now) }
+    ensures flat { IfOk result (λ source. IsFlatOf source.tree source.flat) }
+{
+    accepted_sources_bind_new_names();
     let tokens = tokens_of(alloc, text)?;
     let tree = tree_of(alloc, &tokens)?;
     check_tree(alloc, &tree)?;
-    Ok(tree)
+    let piped = blocks_of(alloc, &tree)?;
+    let flat = flat_of(alloc, &piped)?;
+    Ok(Source { tree, flat })
 }
 
 /// Judges the text of a source that is to be told right.
@@ -70,7 +112,7 @@ pub fn judged_source<'a>(alloc: Global, text: &[u8]) -> Result<Task<'a>, Stop>
     requires { length text.now ≤ 4294967294 }
     ensures finds { Finds (JudgesProgram text.now) result }
     ensures no_fault { IsErrOf result Stop.ReadFault → ⊥ }
-    ensures ready { IfOk result (λ task. IsReady (task_meant task)) }
+    ensures ready { IfOk result (λ task. IsReady task) }
 {
     judge_program(alloc, text)?;
     Ok(Task::TellRight)

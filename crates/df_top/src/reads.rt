@@ -2,7 +2,7 @@
 ghost use Rattle.std.specs.Prelude.{◌≡◌, ◌≤◌, length, IfOk, IsTrue, string_bytes};
 ghost use Rattle.df_io.specs.Faults.{HasReadCause};
 ghost use Rattle.df_io.specs.declared.files.FileMode.{FileMode};
-ghost use Rattle.df_top.specs.Verdicts.{text_at, texts_at, pair_at};
+ghost use Rattle.df_top.specs.Verdicts.{text_at, texts_at, sources_at, duals_at};
 ghost use Rattle.df_top.specs.Judged.{GivesRead, HasReadingCause, texts_meant, pair_meant};
 
 use crate::refusals::refused;
@@ -10,6 +10,9 @@ use crate::stop::Stop;
 use df_io::{FileMode, Files, ReadAnswer, read_all};
 use df_values::bytes::Bytes;
 use std::alloc::Global;
+
+/// The most bytes of a source.
+pub const SOURCE_LIMIT: u32 = 1_048_576;
 
 const TEXT_LIMIT: u32 = 16_777_216;
 
@@ -82,15 +85,37 @@ pub fn texts_of<F: Files>(
     })
 }
 
-/// The texts of cells and of a flow.
+/// Two texts: a source and an input, or cells and a flow.
 #[derive(Drop)]
 pub struct PairRead {
-    pub cells: Bytes,
-    pub dual: Bytes,
+    pub first: Bytes,
+    pub second: Bytes,
+}
+
+/// The texts of a source and of an input, in this order.
+pub fn source_and_input<F: Files>(
+    alloc: Global,
+    files: &mut F,
+    source: &String,
+    input: &String,
+) -> Result<PairRead, Stop>
+    requires { F.mode files.old ≡ FileMode.Idle }
+    ensures mode { F.mode files.new ≡ FileMode.Idle }
+    ensures holds { IsTrue F.tells → (F.told files.new).holds ≡ (F.told files.old).holds }
+    ensures gives { IsTrue F.tells → GivesRead pair_meant result
+        (sources_at (F.told files.old).holds (string_bytes source.now) (string_bytes input.now)) }
+    ensures short { IfOk result (λ texts. (length texts.first ≤ 1_048_576) × (length texts.second ≤ 16_777_216)) }
+    ensures fault { HasReadingCause F.tells (F.faults files.old) (F.faults files.new) result
+        (sources_at (F.told files.old).holds (string_bytes source.now) (string_bytes input.now)) }
+    ensures counts { HasReadCause ⊥ (F.faults files.old) (F.faults files.new) }
+{
+    let first = text_of(alloc, files, source, SOURCE_LIMIT, "source")?;
+    let second = text_of(alloc, files, input, TEXT_LIMIT, "input")?;
+    Ok(PairRead { first, second })
 }
 
 /// The texts of cells and of a flow, in this order.
-pub fn pair_of<F: Files>(
+pub fn cells_and_dual<F: Files>(
     alloc: Global,
     files: &mut F,
     cells: &String,
@@ -100,12 +125,12 @@ pub fn pair_of<F: Files>(
     ensures mode { F.mode files.new ≡ FileMode.Idle }
     ensures holds { IsTrue F.tells → (F.told files.new).holds ≡ (F.told files.old).holds }
     ensures gives { IsTrue F.tells → GivesRead pair_meant result
-        (pair_at (F.told files.old).holds (string_bytes cells.now) (string_bytes dual.now)) }
+        (duals_at (F.told files.old).holds (string_bytes cells.now) (string_bytes dual.now)) }
     ensures fault { HasReadingCause F.tells (F.faults files.old) (F.faults files.new) result
-        (pair_at (F.told files.old).holds (string_bytes cells.now) (string_bytes dual.now)) }
+        (duals_at (F.told files.old).holds (string_bytes cells.now) (string_bytes dual.now)) }
     ensures counts { HasReadCause ⊥ (F.faults files.old) (F.faults files.new) }
 {
-    let cells = text_of(alloc, files, cells, CELLS_LIMIT, "cells")?;
-    let dual = text_of(alloc, files, dual, DUAL_LIMIT, "dual")?;
-    Ok(PairRead { cells, dual })
+    let first = text_of(alloc, files, cells, CELLS_LIMIT, "cells")?;
+    let second = text_of(alloc, files, dual, DUAL_LIMIT, "dual")?;
+    Ok(PairRead { first, second })
 }

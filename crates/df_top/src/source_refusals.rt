@@ -1,12 +1,14 @@
 //! The lines that say why a source is refused.
-ghost use Rattle.std.specs.Prelude.{◌≡◌, ◌≢◌, ◌++◌, IfOk, OnOk};
+ghost use Rattle.std.specs.Prelude.{◌≡◌, ◌≢◌, ◌++◌, IfOk, OnOk, codes};
 ghost use Rattle.df_top.specs.Lines.{refusal};
 ghost use Rattle.df_top.specs.Texts.{and_word};
-ghost use Rattle.df_top.specs.ProgramTexts.{and_place, check_reason, parse_reason};
+ghost use Rattle.df_top.specs.ProgramTexts.{and_place, check_reason, form_word, parse_reason, shape_reason};
 
 use crate::refusals::{push_name, push_number};
 use df_grammar::ParseAnswer;
 use df_io::Place;
+use df_shape::ShapeAnswer;
+use df_syntax::form::Form;
 use df_types::CheckAnswer;
 use df_values::bytes::Bytes;
 use df_values::memory::Memory;
@@ -88,5 +90,49 @@ pub fn refused_parse(alloc: Global, answer: &ParseAnswer) -> Result<Bytes, Memor
         ParseAnswer::TooDeep(place) => refused_place(alloc, "TooDeep", *place),
         ParseAnswer::Unsupported(name, place) => refused_name(alloc, "Unsupported", name, *place),
         ParseAnswer::Memory => Err(Memory),
+    }
+}
+
+// The word of a rule on the form.
+fn form_word(form: Form) -> &'static str
+    ensures { result.now ≡ form_word form }
+{
+    match form {
+        Form::ArrayParameter => "array-parameter",
+        Form::Block => "block",
+        Form::ArrayIf => "array-if",
+        Form::ArrayDefinition => "array-definition",
+        Form::ArrayValue => "array-value",
+        Form::Recurrence => "recurrence",
+        Form::Subscript => "subscript",
+    }
+}
+
+// The line of a source that breaks this rule on its form at this place.
+fn refused_form(alloc: Global, form: Form, place: Place) -> Result<Bytes, Memory>
+    ensures { IfOk result (λ line. line ≡ refusal (codes "NotPiped" ++ (and_word (form_word form) ++ and_place place))) }
+{
+    let mut line = Bytes::new(alloc);
+    line.push_text("refused NotPiped ")?;
+    line.push_text(form_word(form))?;
+    push_place(&mut line, place)?;
+    line.push_text("\n")?;
+    Ok(line)
+}
+
+/// The line of a source whose form is refused for this. Where memory was refused, none is written.
+pub fn refused_shape(alloc: Global, answer: &ShapeAnswer) -> Result<Bytes, Memory>
+    ensures line { IfOk result (λ line. line ≡ refusal (shape_reason answer.now)) }
+    ensures told { OnOk result (answer.now ≢ ShapeAnswer.Memory) }
+{
+    match answer {
+        ShapeAnswer::LaterFunction(name, place) => {
+            refused_name(alloc, "LaterFunction", name, *place)
+        }
+        ShapeAnswer::NotManifest(place) => refused_place(alloc, "NotManifest", *place),
+        ShapeAnswer::RangeTooLong(place) => refused_place(alloc, "RangeTooLong", *place),
+        ShapeAnswer::EmptyReduce(place) => refused_place(alloc, "EmptyReduce", *place),
+        ShapeAnswer::NotPiped(form, place) => refused_form(alloc, *form, *place),
+        ShapeAnswer::Memory => Err(Memory),
     }
 }

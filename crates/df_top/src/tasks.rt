@@ -4,21 +4,22 @@ ghost use Rattle.df_io.specs.Faults.{HasReadCause};
 ghost use Rattle.df_io.specs.declared.files.FileMode.{FileMode};
 ghost use Rattle.df_top.specs.Verdicts.{Judges};
 ghost use Rattle.df_top.specs.Words.{order_meant};
-ghost use Rattle.df_top.specs.Orders.{Check, Go, Run, Verify};
+ghost use Rattle.df_top.specs.Orders.{Check, Eval, Go, Run, Verify};
 ghost use Rattle.df_top.specs.Plans.{task_meant};
 ghost use Rattle.df_top.specs.Ready.{IsReady};
 ghost use Rattle.df_top.specs.Judged.{Finds, HasTaskCause};
 
 use crate::command::Command;
 use crate::judge::{judged_cells, judged_dual, judged_program};
+use crate::meaning::judged_meaning;
 use crate::plan::Task;
 use crate::programs::judged_source;
-use crate::reads::{CELLS_LIMIT, pair_of, text_of, texts_of};
+use crate::reads::{
+    CELLS_LIMIT, SOURCE_LIMIT, cells_and_dual, source_and_input, text_of, texts_of,
+};
 use crate::stop::Stop;
 use df_io::{FileMode, Files};
 use std::alloc::Global;
-
-const SOURCE_LIMIT: u32 = 1_048_576;
 
 // Reads and judges the text of a source.
 fn task_of_source<'a, F: Files>(
@@ -30,12 +31,31 @@ fn task_of_source<'a, F: Files>(
     ensures mode { F.mode files.new ≡ FileMode.Idle }
     ensures holds { IsTrue F.tells → (F.told files.new).holds ≡ (F.told files.old).holds }
     ensures finds { IsTrue F.tells → Finds (Judges (Check (string_bytes source.now)) (F.told files.old).holds) result }
-    ensures ready { IfOk result (λ task. IsReady (task_meant task)) }
+    ensures ready { IfOk result (λ task. IsReady task) }
     ensures fault { HasTaskCause F.tells (F.faults files.old) (F.faults files.new) result (Check (string_bytes source.now)) (F.told files.old).holds }
     ensures counts { HasReadCause ⊥ (F.faults files.old) (F.faults files.new) }
 {
     let text = text_of(alloc, files, source, SOURCE_LIMIT, "source")?;
     judged_source(alloc, text.as_slice())
+}
+
+// Reads and judges the texts of a source and of its inputs.
+fn task_of_meaning<'a, F: Files>(
+    alloc: Global,
+    files: &mut F,
+    source: &String,
+    input: &String,
+) -> Result<Task<'a>, Stop>
+    requires { F.mode files.old ≡ FileMode.Idle }
+    ensures mode { F.mode files.new ≡ FileMode.Idle }
+    ensures holds { IsTrue F.tells → (F.told files.new).holds ≡ (F.told files.old).holds }
+    ensures finds { IsTrue F.tells → Finds (Judges (Eval (string_bytes source.now) (string_bytes input.now)) (F.told files.old).holds) result }
+    ensures ready { IfOk result (λ task. IsReady task) }
+    ensures fault { HasTaskCause F.tells (F.faults files.old) (F.faults files.new) result (Eval (string_bytes source.now) (string_bytes input.now)) (F.told files.old).holds }
+    ensures counts { HasReadCause ⊥ (F.faults files.old) (F.faults files.new) }
+{
+    let texts = source_and_input(alloc, files, source, input)?;
+    judged_meaning(alloc, texts.first.as_slice(), texts.second.as_slice())
 }
 
 // Reads and judges the texts of a program to be compiled and run.
@@ -52,7 +72,7 @@ fn task_of_program<'a, F: Files>(
     ensures mode { F.mode files.new ≡ FileMode.Idle }
     ensures holds { IsTrue F.tells → (F.told files.new).holds ≡ (F.told files.old).holds }
     ensures finds { IsTrue F.tells → Finds (Judges (Go (string_bytes source.now) (string_bytes input.now) (string_bytes schedule.now) (string_bytes cells.now) (string_bytes dual.now)) (F.told files.old).holds) result }
-    ensures ready { IfOk result (λ task. IsReady (task_meant task)) }
+    ensures ready { IfOk result (λ task. IsReady task) }
     ensures fault { HasTaskCause F.tells (F.faults files.old) (F.faults files.new) result (Go (string_bytes source.now) (string_bytes input.now) (string_bytes schedule.now) (string_bytes cells.now) (string_bytes dual.now)) (F.told files.old).holds }
     ensures counts { HasReadCause ⊥ (F.faults files.old) (F.faults files.new) }
 {
@@ -87,7 +107,7 @@ fn task_of_cells<'a, F: Files>(
     ensures mode { F.mode files.new ≡ FileMode.Idle }
     ensures holds { IsTrue F.tells → (F.told files.new).holds ≡ (F.told files.old).holds }
     ensures finds { IsTrue F.tells → Finds (Judges (Run (string_bytes cells.now) (string_bytes input.now) (string_bytes schedule.now)) (F.told files.old).holds) result }
-    ensures ready { IfOk result (λ task. IsReady (task_meant task)) }
+    ensures ready { IfOk result (λ task. IsReady task) }
     ensures fault { HasTaskCause F.tells (F.faults files.old) (F.faults files.new) result (Run (string_bytes cells.now) (string_bytes input.now) (string_bytes schedule.now)) (F.told files.old).holds }
     ensures counts { HasReadCause ⊥ (F.faults files.old) (F.faults files.new) }
 {
@@ -111,12 +131,12 @@ fn task_of_dual<'a, F: Files>(
     ensures mode { F.mode files.new ≡ FileMode.Idle }
     ensures holds { IsTrue F.tells → (F.told files.new).holds ≡ (F.told files.old).holds }
     ensures finds { IsTrue F.tells → Finds (Judges (Verify (string_bytes cells.now) (string_bytes dual.now)) (F.told files.old).holds) result }
-    ensures ready { IfOk result (λ task. IsReady (task_meant task)) }
+    ensures ready { IfOk result (λ task. IsReady task) }
     ensures fault { HasTaskCause F.tells (F.faults files.old) (F.faults files.new) result (Verify (string_bytes cells.now) (string_bytes dual.now)) (F.told files.old).holds }
     ensures counts { HasReadCause ⊥ (F.faults files.old) (F.faults files.new) }
 {
-    let texts = pair_of(alloc, files, cells, dual)?;
-    judged_dual(alloc, texts.cells.as_slice(), texts.dual.as_slice())
+    let texts = cells_and_dual(alloc, files, cells, dual)?;
+    judged_dual(alloc, texts.first.as_slice(), texts.second.as_slice())
 }
 
 /// Reads the files of a command and judges their texts, each in the order of its words.
@@ -129,12 +149,13 @@ pub fn task_of<'a, F: Files>(
     ensures mode { F.mode files.new ≡ FileMode.Idle }
     ensures holds { IsTrue F.tells → (F.told files.new).holds ≡ (F.told files.old).holds }
     ensures finds { IsTrue F.tells → Finds (Judges (order_meant command.entry) (F.told files.old).holds) result }
-    ensures ready { IfOk result (λ task. IsReady (task_meant task)) }
+    ensures ready { IfOk result (λ task. IsReady task) }
     ensures fault { HasTaskCause F.tells (F.faults files.old) (F.faults files.new) result (order_meant command.entry) (F.told files.old).holds }
     ensures counts { HasReadCause ⊥ (F.faults files.old) (F.faults files.new) }
 {
     match command {
         Command::Check { source } => task_of_source(alloc, files, source),
+        Command::Eval { source, input } => task_of_meaning(alloc, files, source, input),
         Command::Go {
             source,
             input,

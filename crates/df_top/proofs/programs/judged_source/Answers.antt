@@ -1,6 +1,7 @@
+use Rattle.df_syntax.specs.declared.program.Program.{Program}
 use Rattle.std.proofs.Common.{◌≡◌, Ok, refl}
 use Rattle.std.proofs.lemmas.Result.{err_from_is_err_and}
-use Rattle.df_syntax.specs.declared.program.Program.{Program}
+use Rattle.df_top.specs.declared.programs.Source.{Source}
 use Rattle.df_top.specs.ProgramTexts.{ReadsProgram}
 use Rattle.df_top.specs.Verdicts.{Verdict, Accepted, TellRight}
 use Rattle.df_top.proofs.Judging.{refused_first}
@@ -9,8 +10,8 @@ use Rattle.df_top.proofs.programs.judged_source.Goals as goal
 pub returns-in_err-judge_program-clause-finds : goal.returns-in_err-judge_program-clause-finds
 returns-in_err-judge_program-clause-finds c =
     let p = err_from_is_err_and c.from_residual.result c.from_residual.ensures.1 in
-    rw (p.1, p.2) (refused_first (λ (tree : Program). tree) (ReadsProgram c.args.text.now) (λ (v : Verdict) (tree : Program). v ≡ Accepted TellRight)
-    c.in_err-judge_program.field-0.0 c.in_err-judge_program.ensures)
+    rw (p.1, p.2) (refused_first (λ (s : Source). s.tree) (ReadsProgram c.args.text.now) (λ (v : Verdict) (tree : Program). v ≡ Accepted TellRight)
+    c.in_err-judge_program.field-0.0 c.in_err-judge_program.ensures.reads)
 
 pub returns-clause-finds : goal.returns-clause-finds
-returns-clause-finds c = record { read = Ok c.in_ok-judge_program.field-0; reads = c.in_ok-judge_program.ensures; goes = refl }
+returns-clause-finds c = record { read = Ok c.in_ok-judge_program.field-0.tree; reads = c.in_ok-judge_program.ensures.reads; goes = refl }
