@@ -8,6 +8,4 @@ pub mod cancel;
 mod cancelling;
 mod rows;
 mod step;
-#[cfg(test)]
-mod tests;
 mod trace;

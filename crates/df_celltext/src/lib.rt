@@ -9,7 +9,5 @@ pub mod laws;
 mod lines;
 pub mod reader;
 mod spellings;
-#[cfg(test)]
-mod tests;
 mod words;
 pub mod writer;

@@ -12,5 +12,3 @@ pub mod laws;
 mod pieces;
 mod rising;
 mod staged;
-#[cfg(test)]
-mod tests;

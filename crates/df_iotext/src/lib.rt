@@ -9,6 +9,4 @@ pub mod lines;
 pub mod numbers;
 pub mod printing;
 pub mod schedules;
-#[cfg(test)]
-mod tests;
 pub mod words;

@@ -3,7 +3,7 @@ ghost use Rattle.std.specs.Prelude.{◌≡◌, IfOk};
 ghost use Rattle.df_io.specs.MemFiles.{mode_of};
 ghost use Rattle.df_io.specs.declared.files.FileMode.{FileMode};
 
-use crate::{
+use df_io::{
     Fault, MemFiles, MemSink, ReadAnswer, RealFiles, StdSink, read_all, write_file, write_out,
 };
 use std::alloc::Global;

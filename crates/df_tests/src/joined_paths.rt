@@ -1,14 +1,11 @@
-//! The least stages and flow of two paths that join.
+//! The skeleton of two paths that join.
 ghost use Rattle.std.specs.Prelude.{◌≡◌, pos, length, IfOk};
 ghost use Rattle.df_stages.specs.JoinedPaths.{joined_arcs};
 
-use crate::balancer::Balancer;
-use crate::cancel::Cancel;
 use df_cells::cells::{CellId, Dest, Port};
 use df_stages::skeleton::{Skeleton, SkeletonArc};
 use df_values::memory::Memory;
 use std::alloc::Global;
-use std::test::Fail;
 
 fn arc(cell: u32, port: u8, from: u32, to: u32) -> SkeletonArc
     ensures { result ≡ record { name = record { cell = record { 0 = cell }; port = record { 0 = port } }; from = from; to = to; weight = pos 1; buffers = 0 } }
@@ -49,23 +46,11 @@ fn joined_nodes(alloc: Global) -> Result<Vec<CellId>, Memory>
     Ok(nodes)
 }
 
-fn joined_paths(alloc: Global) -> Result<Skeleton, Memory>
+pub fn joined_paths(alloc: Global) -> Result<Skeleton, Memory>
     ensures { IfOk result (λ s. s.arcs ≡ joined_arcs) }
 {
     let nodes = joined_nodes(alloc)?;
     let arcs = joined_arcs(alloc)?;
     let least = Vec::new(alloc);
     Skeleton::new(alloc, nodes, arcs, least)
-}
-
-#[test]
-fn joined_paths_take_two_buffers(rt: HostRuntime) -> Result<(), Fail> {
-    let alloc = rt.alloc();
-    let s = joined_paths(alloc)?;
-    let found = Cancel.balance(alloc, &s)?;
-    assert_eq!(rt; found.stages.as_slice(), [0_i64, 1, 2, 3, 4].as_slice());
-    assert_eq!(rt; found.flow.as_slice(), [2_u32, 2, 0, 2, 1].as_slice());
-    assert_eq!(rt; found.stages.len(), 5);
-    assert!(rt; !found.stages.is_empty());
-    Ok(())
 }

@@ -2,11 +2,11 @@
 ghost use Rattle.std.specs.Prelude.{◌≤◌, length, IfOk};
 ghost use Rattle.df_iotext.specs.Inputs.{HaveOwnNames};
 
-use crate::inputs::{InputAnswer, read_inputs};
-use crate::printing::{print_outputs, print_schedule};
-use crate::schedules::{ScheduleAnswer, read_schedule};
 use df_cells::cells::InputDecl;
 use df_cells::schedules::{Choices, Schedule};
+use df_iotext::inputs::{InputAnswer, read_inputs};
+use df_iotext::printing::{print_outputs, print_schedule};
+use df_iotext::schedules::{ScheduleAnswer, read_schedule};
 use df_values::memory::Memory;
 use df_values::name::Name;
 use df_values::streams::Streams;

@@ -1,6 +1,6 @@
 //! Texts read and written again, and texts that are refused.
-use crate::reader::{CellTextAnswer, read_cells};
-use crate::writer::write_cells;
+use df_celltext::reader::{CellTextAnswer, read_cells};
+use df_celltext::writer::write_cells;
 use std::alloc::Global;
 
 const SUM: &str =

@@ -1,14 +1,14 @@
 //! An input, a sum and a result: well-formed, with one thing wrong, and with the sum on a loop.
-use crate::answers::{Rule, WellFormedAnswer};
-use crate::laws::{fails_once, marks_are_unique, refuses_only_bad};
-use crate::marks::right_marks;
-use crate::rules::well_formed;
 use df_cells::cells::{Cell, CellId, Cells, Dest, Feed, Port};
 use df_cells::kinds::Kind;
 use df_cells::ports::{Dests, Ports};
 use df_values::memory::Memory;
 use df_values::name::Name;
 use df_values::values::{Basic, Value};
+use df_wellformed::answers::{Rule, WellFormedAnswer};
+use df_wellformed::laws::{fails_once, marks_are_unique, refuses_only_bad};
+use df_wellformed::marks::right_marks;
+use df_wellformed::rules::well_formed;
 use std::alloc::Global;
 use std::test::Fail;
 

@@ -1,7 +1,7 @@
 use Rattle.std.proofs.Common.{arith}
 use Rattle.df_values.specs.Values.{least, greatest}
 use Rattle.df_meaning.proofs.OneBlock.{only_range}
-use Rattle.df_meaning.proofs.evaluator.tests.elements_come_by_their_index.Goals as goal
+use Rattle.df_tests.proofs.meaning.elements_come_by_their_index.Goals as goal
 
 pub eval-requires-clause-ranges : goal.eval-requires-clause-ranges
 unfolding least greatest

@@ -1,9 +1,9 @@
 //! A loop that is built port by port.
 ghost use Rattle.std.specs.Prelude.{◌≡◌, ◌<◌, length, IfOk};
 
-use crate::builder::Builder;
 use df_cells::cells::{CellId, Cells, Dest, Feed, Port};
 use df_cells::kinds::Kind;
+use df_labels::builder::Builder;
 use df_values::memory::Memory;
 use df_values::name::Name;
 use df_values::values::{Basic, ErrorValue, Value};
