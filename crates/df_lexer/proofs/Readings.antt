@@ -1,12 +1,12 @@
 -- A text is read one piece after the other.
-use Rattle.std.proofs.Common.{◌≡◌, ℕ, zero, suc, ◌+◌, ◌≤◌, ◌<◌, Bool, true, false, List, [], ◌∷◌, ◌++◌, length, refl, sym, ◌∙◌, ap, subst, append_assoc, append-nil, arith}
+use Rattle.std.proofs.Common.{◌≡◌, ℕ, suc, ◌+◌, ◌≤◌, Bool, true, false, List, [], ◌∷◌, length, refl, sym, ◌∙◌, ap, subst, arith}
 use Rattle.std.specs.Prelude.{if◌then◌else◌}
 use Rattle.std.proofs.lemmas.List.{length-append}
 use Rattle.df_io.specs.declared.place.Place.{Place}
 use Rattle.df_syntax.specs.declared.token.Token.{Token}
 use Rattle.df_syntax.specs.Places.{start, is_line_feed, after_byte, moved}
-use Rattle.df_syntax.specs.Tokens.{Takes, TakesMany, IsReadTo}
-use Rattle.df_syntax.proofs.OneReading.{piece_some}
+use Rattle.df_syntax.specs.Tokens.{TakesMany, IsReadTo}
+use Rattle.df_syntax.proofs.SomeReading.{one_more}
 use Rattle.df_lexer.specs.declared.lexer.Lexer.{Lexer}
 use Rattle.df_lexer.specs.Steps.{HasRoom, Advances}
 
@@ -26,27 +26,12 @@ moved-near at (b ∷ w) =
 
 -- ---- steps
 
-no_more : (tokens given : List Token) → tokens ≡ [] → tokens ++ given ≡ given ++ []
-no_more tokens given e = rw e (sym (append-nil given))
-
--- one piece more
-pub one_more : (n : ℕ) (at to next : Place) (text rest left : List ℕ) (tokens given : List Token) → TakesMany n at text tokens to rest → Takes to rest given next left → TakesMany (suc n) at text (tokens ++ given) next left
-one_more zero at to next text rest left tokens given (e, p, q) t =
-    let here : Takes at rest given next left = subst (λ (z : Place). Takes z rest given next left) p t in
-    (given, [], next, left, no_more tokens given e, subst (λ (z : List ℕ). Takes at z given next left) q here, (refl, refl, refl))
-one_more (suc n) at to next text rest left tokens given (g, m, q, l, e, first, more) t =
-    (g, m ++ given, q, l, ap (λ (z : List Token). z ++ given) e ∙ append_assoc g m given, first, one_more n q to next l rest left m given more t)
-
 pub read_on : (text : List ℕ) (old new : Lexer) → IsReadTo text old.tokens.tokens old.place old.rest.now → Advances old new → IsReadTo text new.tokens.tokens new.place new.rest.now
 read_on text old new (n, h) a = (
   suc n,
   subst (λ (z : List Token). TakesMany (suc n) start text z new.place new.rest.now) (sym a.added)
       (one_more n start old.place new.place text old.rest.now new.rest.now old.tokens.tokens a.given h a.takes),
 )
-
-pub gets_shorter : (old new : Lexer) → Advances old new → length new.rest.now < length old.rest.now
-gets_shorter old new a =
-    omega (arith, piece_some a.takes.piece a.takes.longest.piece, ap length a.takes.longest.parts, length-append a.takes.piece new.rest.now)
 
 pub keeps_room : (old new : Lexer) → HasRoom old → Advances old new → HasRoom new
 keeps_room old new room a =

@@ -1,6 +1,7 @@
 pub mod Classes
 pub mod Spellings
 pub mod OneReading
+pub mod SomeReading
 pub mod ClassCodes
 pub mod SomeText
 pub mod Prefixes
@@ -11,6 +12,7 @@ pub mod Plain
 pub mod SameFronts
 pub mod SourceReading
 pub mod Refused
+pub mod SomeAnswer
 pub mod WorkedRows
 pub mod Folds
 pub mod Bounds
