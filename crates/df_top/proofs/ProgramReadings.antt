@@ -1,5 +1,6 @@
 -- The text of a source has one reading: a tree, or one refusal.
-use Rattle.std.proofs.Common.{◌≡◌, ◌≢◌, ◌∙◌, ℕ, List, ◌++◌, Option, Some, None, Ok, Err, refl, sym, ap, subst, arith, codes}
+use Rattle.std.proofs.Common.{◌≡◌, ◌≢◌, ◌∙◌, ℕ, List, ◌++◌, Option, Some, None, Result, Ok, Err, inl, inr, refl, sym, ap, subst, arith, codes}
+use Rattle.std.proofs.lemmas.Bool.{cases_lt}
 use Rattle.df_io.specs.declared.place.Place.{Place}
 use Rattle.df_grammar.specs.Answers.{IsAnswered}
 use Rattle.df_grammar.specs.declared.parser.ParseAnswer.{ParseAnswer}
@@ -13,16 +14,18 @@ use Rattle.df_syntax.specs.Demands.{first_refusal}
 use Rattle.df_syntax.specs.declared.piped.Piped.{Piped}
 use Rattle.df_syntax.specs.declared.piped.Flat.{Flat}
 use Rattle.df_types.specs.Sources.{demands}
+use Rattle.df_types.specs.declared.answers.CheckAnswer.{CheckAnswer}
 use Rattle.df_shape.specs.Answers.{IsShaped}
 use Rattle.df_shape.specs.Shaped.{shaped}
 use Rattle.df_shape.specs.Sources.{demands as form_demands}
+use Rattle.df_shape.specs.declared.answers.ShapeAnswer.{ShapeAnswer}
 use Rattle.df_inline.specs.Sizes.{piped_size}
 use Rattle.df_inline.specs.declared.size.Size.{Size}
 use Rattle.df_top.specs.Judged.{GivesMeaning}
-use Rattle.df_top.specs.Laws.{ProgramsHaveOneReading}
+use Rattle.df_top.specs.Laws.{ProgramsHaveOneReading, ProgramsHaveReadings}
 use Rattle.df_top.specs.Lines.{refusal}
 use Rattle.df_top.specs.Texts.{and_word}
-use Rattle.df_top.specs.ProgramTexts.{and_place, fault_word, check_reason, parse_reason, shape_reason, HasNoTokens, IsNoSource, FailsDemand, FailsForm, IsSmall, IsOver, IsAccepted, IsNotAccepted, HasTokens, IsTextOfTree, IsRefusedSource, ReadsTokens, ReadsTree, MeetsDemands, ReadsBlocks, ReadsFlat, ReadsProgram}
+use Rattle.df_top.specs.ProgramTexts.{and_place, fault_word, check_reason, parse_reason, shape_reason, most_nodes, most_brackets, HasNoTokens, IsNoSource, FailsDemand, FailsForm, IsSmall, IsOver, IsAccepted, IsNotAccepted, HasTokens, IsTextOfTree, IsRefusedSource, ReadsTokens, ReadsTree, MeetsDemands, ReadsBlocks, ReadsFlat, ReadsProgram}
 use Rattle.df_top.specs.ProgramTexts.IsNoSource.{syntax, unsupported, too_deep}
 use Rattle.df_top.specs.ProgramTexts.IsOver.{too_large, too_tall}
 use Rattle.df_top.specs.ProgramTexts.IsNotAccepted.{misnamed, misshapen, oversized}
@@ -44,6 +47,12 @@ SplitIsNotBad = (text : List ℕ) (tokens : List Token) (end place : Place) (fau
 
 abbrev pub AnswersOnce : Type 0
 AnswersOnce = (list : TokenList) (a b : Answer) → IsAnswer list a → IsAnswer list b → a ≡ b
+
+abbrev pub SplitsOrIsBad : Type 0
+SplitsOrIsBad = (text : List ℕ) → ¬ (((tokens : List Token) (end : Place) → ¬ Splits text tokens end) × ((at : Place) (fault : LexFault) → ¬ FirstBad text at fault))
+
+abbrev pub AnswersAlways : Type 0
+AnswersAlways = (list : TokenList) → ¬ ((answer : Answer) → ¬ IsAnswer list answer)
 
 -- ---- tokens
 
@@ -172,6 +181,52 @@ one_program_reading once bad good answers text (Ok a) (Ok b) p q = ap Ok (one_tr
 one_program_reading once bad good answers text (Ok a) (Err line) p q = absurd (not_refused once good answers text a line p q)
 one_program_reading once bad good answers text (Err line) (Ok b) p q = absurd (not_refused once good answers text b line q p)
 one_program_reading once bad good answers text (Err line) (Err other) p q = ap Err (one_line once bad good answers text line other p q)
+
+-- ---- there is a reading
+
+-- a tree that is neither accepted nor refused is none
+module _ (tree : Program) (refused : ¬ IsAccepted tree) (passed : (line : List ℕ) → ¬ IsNotAccepted tree line) where
+  sized : (size : Size) → ¬ IsSmall size → ¬ ((line : List ℕ) → ¬ IsOver size line)
+  sized size large within =
+      elim (cases_lt most_nodes size.nodes) [
+        | inl over ↦ within (refusal (codes "TooLarge")) (too_large over refl)
+        | inr few ↦ elim (cases_lt most_brackets size.brackets) [
+          | inl tall ↦ within (refusal (codes "TooTall")) (too_tall few tall refl)
+          | inr low ↦ large (record { nodes = few; brackets = low })
+        ]
+      ]
+
+  formed_so : first_refusal (demands tree) ≡ None → (found : Option ShapeAnswer) → first_refusal (form_demands tree) ≡ found → ⊥
+  formed_so named (Some answer) first =
+      passed (refusal (shape_reason answer)) (misshapen named (record { answer = answer; says = refl; first = first }))
+  formed_so named None formed =
+      sized (piped_size (shaped tree)) (λ small. refused (record { named = named; formed = formed; within = small }))
+      (λ line over. passed line (oversized named formed over))
+
+  named_so : (found : Option CheckAnswer) → first_refusal (demands tree) ≡ found → ⊥
+  named_so (Some answer) first = passed (refusal (check_reason answer)) (misnamed (record { answer = answer; says = refl; first = first }))
+  named_so None named = formed_so named (first_refusal (form_demands tree)) refl
+
+abbrev IsUnread : List ℕ → Type 0
+IsUnread text = (reading : Result Program (List ℕ)) → ¬ ReadsProgram text reading
+
+tree_unread : (text : List ℕ) (tree : Program) → IsTextOfTree text tree → ¬ IsUnread text
+tree_unread text tree is none =
+    named_so tree (λ accepted. none (Ok tree) (is, accepted)) (λ line cause. none (Err line) (not_accepted tree is cause)) (first_refusal (demands tree)) refl
+
+answer_unread : (text : List ℕ) (list : TokenList) → HasTokens text list → IsUnread text → (answer : Answer) → ¬ IsAnswer list answer
+answer_unread text list tokens none (source_of tree) source = tree_unread text tree (record { list = list; tokens = tokens; source = source }) none
+answer_unread text list tokens none (wrong_at place) wrong = none (Err (answer_line (wrong_at place))) (no_source list tokens (syntax place wrong refl))
+answer_unread text list tokens none (unsupported_at name place) wrong =
+    none (Err (answer_line (unsupported_at name place))) (no_source list tokens (unsupported name place wrong refl))
+answer_unread text list tokens none (too_deep_at place) wrong = none (Err (answer_line (too_deep_at place))) (no_source list tokens (too_deep place wrong refl))
+
+pub some_program_reading : SplitsOrIsBad → AnswersAlways → ProgramsHaveReadings
+some_program_reading splits answers text none =
+    splits text (
+      (λ tokens end split. let list : TokenList = record { tokens = tokens; end = end } in answers list (answer_unread text list split none)),
+      (λ place fault bad. none (Err (refusal (fault_word fault ++ and_place place))) (no_tokens (record { fault = fault; place = place; says = refl; first = bad }))),
+    )
 
 -- ---- what stops the reading
 

@@ -10,7 +10,7 @@ use Rattle.df_iotext.specs.Inputs.{ReadsInputs, HaveOwnNames}
 use Rattle.df_iotext.specs.Schedules.{ReadsSchedule}
 use Rattle.df_iotext.specs.Laws.{InputsHaveOneReading, InputsHaveReadings, SchedulesHaveOneReading, SchedulesHaveReadings}
 use Rattle.df_iotext.specs.declared.inputs.InputAnswer.{InputAnswer}
-use Rattle.df_top.specs.Laws.{AcceptedSourcesBindNewNames, CellFilesHaveOneReading, CellFilesHaveReadings, DualFilesHaveOneReading, DualFilesHaveReadings, ProgramsHaveOneReading, HasOneVerdict, HasSomeVerdict}
+use Rattle.df_top.specs.Laws.{AcceptedSourcesBindNewNames, CellFilesHaveOneReading, CellFilesHaveReadings, DualFilesHaveOneReading, DualFilesHaveReadings, ProgramsHaveOneReading, ProgramsHaveReadings, HasOneVerdict, HasSomeVerdict}
 use Rattle.df_top.specs.Lines.{refusal}
 use Rattle.df_top.specs.Meanings.{decls_of, decls_by}
 use Rattle.df_top.specs.Orders.{Check, Eval, Go, Run, Verify}
@@ -197,18 +197,27 @@ some_run some_input some_schedule decls input schedule task =
     (λ inputs read. some_after_text (ReadsScheduleText schedule) (last_asked task inputs) (some_schedule_reading some_schedule schedule)
     (λ choices chosen none. none (Accepted (task inputs choices)) refl))
 
-pub some_verdict : InputsHaveReadings → SchedulesHaveReadings → CellFilesHaveReadings → DualFilesHaveReadings → HasSomeVerdict
-some_verdict some_input some_schedule some_cells some_dual (Check source) holds needs = absurd needs
-some_verdict some_input some_schedule some_cells some_dual (Eval source input) holds needs = absurd needs
-some_verdict some_input some_schedule some_cells some_dual (Go source input schedule cells dual) holds needs =
+some_meaning : InputsHaveReadings → ProgramsHaveReadings → (source input : List ℕ) → ¬ ((v : Verdict) → ¬ JudgesEval source input v)
+some_meaning some_input some_program source input =
+    some_after_text (ReadsProgram source) (meaning_asked input) (some_program source)
+    (λ tree read. some_after_text (ReadsInputText (decls_by (source_inputs tree)) input) (meaning_told tree) (some_input_reading some_input (decls_by (source_inputs tree)) input)
+    (λ inputs given none. none (Accepted (TellMeaning tree inputs)) refl))
+
+pub some_verdict : InputsHaveReadings → SchedulesHaveReadings → CellFilesHaveReadings → DualFilesHaveReadings → ProgramsHaveReadings → HasSomeVerdict
+some_verdict some_input some_schedule some_cells some_dual some_program (Check source) holds =
+    some_after_read (text_at holds source source_limit (codes "source")) (λ u text. JudgesProgram text u)
+    (λ text. some_after_text (ReadsProgram text) (λ u tree. u ≡ Accepted TellRight) (some_program text) (λ tree read none. none (Accepted TellRight) refl))
+some_verdict some_input some_schedule some_cells some_dual some_program (Eval source input) holds =
+    some_after_read (sources_at holds source input) (λ u texts. JudgesEval texts.first texts.second u) (λ texts. some_meaning some_input some_program texts.first texts.second)
+some_verdict some_input some_schedule some_cells some_dual some_program (Go source input schedule cells dual) holds =
     some_after_read (texts_at holds source source_limit (codes "source") input schedule) (λ u texts. JudgesGo texts.first texts.input texts.schedule cells dual u)
     (λ texts. some_after_text (ReadsSource texts.first) (program_asked texts.input texts.schedule cells dual) (some_source_reading texts.first)
     (λ program read. some_run some_input some_schedule (decls_of program) texts.input texts.schedule (λ inputs choices. CompileAndRun program inputs choices cells dual)))
-some_verdict some_input some_schedule some_cells some_dual (Run cells input schedule) holds needs =
+some_verdict some_input some_schedule some_cells some_dual some_program (Run cells input schedule) holds =
     some_after_read (texts_at holds cells cells_limit (codes "cells") input schedule) (λ u texts. JudgesCells texts.first texts.input texts.schedule u)
     (λ texts. some_after_text (ReadsCellFile texts.first) (cells_asked texts.input texts.schedule) (some_cells texts.first)
     (λ list read. some_run some_input some_schedule (inputs_of list) texts.input texts.schedule (λ inputs choices. RunCells list inputs choices)))
-some_verdict some_input some_schedule some_cells some_dual (Verify cells dual) holds needs =
+some_verdict some_input some_schedule some_cells some_dual some_program (Verify cells dual) holds =
     some_after_read (duals_at holds cells dual) (λ u texts. JudgesDual texts.first texts.second u)
     (λ texts. some_after_text (ReadsCellFile texts.first) (dual_asked texts.second) (some_cells texts.first)
     (λ list read. some_after_text (ReadsDualFile list texts.second) (told_of list) (some_dual list texts.second read.1) (λ flow certified none. none (Accepted (TellLeast list)) refl)))

@@ -4,7 +4,7 @@ use Rattle.df_io.specs.Told.{Holds}
 use Rattle.df_cells.specs.declared.cells.Cell.{Cell}
 use Rattle.df_machine.specs.ThreeCells.{three_cells}
 use Rattle.df_top.specs.Compiled.{IsFaithful}
-use Rattle.df_top.specs.Orders.{Order, Check, Eval}
+use Rattle.df_top.specs.Orders.{Order}
 use Rattle.df_top.specs.Ready.{IsWithin}
 use Rattle.df_top.specs.Texts.{ReadsCellFile, ReadsDualFile}
 use Rattle.df_top.specs.Verdicts.{Verdict, Judges}
@@ -22,15 +22,9 @@ AlwaysFaithful = (program : Program) → IsWithin program → IsFaithful program
 abbrev pub HasOneVerdict : Type 0
 HasOneVerdict = (order : Order) (holds : Holds) (v w : Verdict) → Judges order holds v → Judges order holds w → v ≡ w
 
--- the command is none whose text is a source of any form
-abbrev pub NeedsNoTokens : Order → Type 0
-NeedsNoTokens (Check source) = ⊥
-NeedsNoTokens (Eval source input) = ⊥
-NeedsNoTokens _ = Unit {0}
-
 -- it can't be that there is none
 abbrev pub HasSomeVerdict : Type 0
-HasSomeVerdict = (order : Order) (holds : Holds) → NeedsNoTokens order → ¬ ((v : Verdict) → ¬ Judges order holds v)
+HasSomeVerdict = (order : Order) (holds : Holds) → ¬ ((v : Verdict) → ¬ Judges order holds v)
 
 -- the text of a cell file has one reading at most
 abbrev pub CellFilesHaveOneReading : Type 0
@@ -52,6 +46,10 @@ DualFilesHaveReadings = (cells : List Cell) (text : List ℕ) → WellFormed cel
 -- the text of a source has one reading at most
 abbrev pub ProgramsHaveOneReading : Type 0
 ProgramsHaveOneReading = (text : List ℕ) (one other : Result Tree (List ℕ)) → ReadsProgram text one → ReadsProgram text other → one ≡ other
+
+-- there is no text without a reading
+abbrev pub ProgramsHaveReadings : Type 0
+ProgramsHaveReadings = (text : List ℕ) → ¬ ((reading : Result Tree (List ℕ)) → ¬ ReadsProgram text reading)
 
 -- the names that an accepted source binds in its functions are new where it binds them
 abbrev pub AcceptedSourcesBindNewNames : Type 0

@@ -1,5 +1,5 @@
 //! What follows from the definitions of the verdict alone: each call does nothing, and its contract is a law.
-ghost use Rattle.df_top.specs.Laws.{AcceptedSourcesBindNewNames, CellFilesHaveOneReading, CellFilesHaveReadings, DualFilesHaveOneReading, DualFilesHaveReadings, HasOneVerdict, HasSomeVerdict, ProgramsHaveOneReading};
+ghost use Rattle.df_top.specs.Laws.{AcceptedSourcesBindNewNames, CellFilesHaveOneReading, CellFilesHaveReadings, DualFilesHaveOneReading, DualFilesHaveReadings, HasOneVerdict, HasSomeVerdict, ProgramsHaveOneReading, ProgramsHaveReadings};
 
 use df_celltext::laws::{has_one_first_wrong_line, is_read_or_wrong, text_tells_the_cells};
 use df_dual_check::laws::{
@@ -11,8 +11,9 @@ use df_iotext::laws::{
     schedules_have_readings,
 };
 use df_syntax::laws::{
-    text_has_one_first_bad_place, text_has_one_split, text_with_tokens_has_no_bad_place,
-    tokens_have_one_answer, trees_are_well_built,
+    text_has_one_first_bad_place, text_has_one_split, text_has_tokens_or_a_bad_place,
+    text_with_tokens_has_no_bad_place, tokens_have_one_answer, tokens_have_some_answer,
+    trees_are_well_built,
 };
 use df_types::laws::accepted_names_are_new;
 use df_wellformed::laws::{fails_once, refuses_all_bad, refuses_only_bad};
@@ -63,6 +64,14 @@ pub fn programs_have_one_reading()
     tokens_have_one_answer();
 }
 
+/// The text of a source is that of an accepted tree, or is refused.
+pub fn programs_have_readings()
+    ensures { ProgramsHaveReadings }
+{
+    text_has_tokens_or_a_bad_place();
+    tokens_have_some_answer();
+}
+
 /// The names that an accepted source binds in its functions are new where it binds them.
 pub fn accepted_sources_bind_new_names()
     ensures { AcceptedSourcesBindNewNames }
@@ -91,4 +100,5 @@ pub fn has_some_verdict()
     schedules_have_readings();
     cell_files_have_readings();
     dual_files_have_readings();
+    programs_have_readings();
 }
