@@ -4,3 +4,4 @@ pub mod LastLists
 pub mod BlocksMade
 pub mod OneBlock
 pub mod TablePlaces
+pub mod Shadowing

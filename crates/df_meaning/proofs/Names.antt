@@ -6,7 +6,7 @@ use Rattle.df_syntax.specs.declared.bound.Bound.{Bound}
 use Rattle.df_syntax.specs.declared.bound.Bound.TheVariants.{Scalar}
 use Rattle.df_syntax.specs.Meaning.{Name, later, bound_at}
 use Rattle.df_meaning.specs.declared.held.Held.{Held}
-use Rattle.df_meaning.specs.declared.held.Binding.{Binding}
+use Rattle.df_meaning.specs.declared.locals.Binding.{Binding}
 use Rattle.df_meaning.specs.Environment.{held_names, is_named, local_names, later_local, local_at, named_as, has_name, later_held, last_held}
 
 held_step : (name : Name) (own : Option Name) (b : Bound) (start : Option Bound) (rest : List (Name × Bound))

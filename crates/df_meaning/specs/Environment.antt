@@ -8,7 +8,8 @@ use Rattle.df_syntax.specs.declared.program.Function.{Function}
 use Rattle.df_syntax.specs.declared.tree.Expr.{Expr}
 use Rattle.df_syntax.specs.Meaning.{Name, Env, calls, value_of}
 use Rattle.df_meaning.specs.declared.held.Held.{Held}
-use Rattle.df_meaning.specs.declared.held.Binding.{Binding}
+use Rattle.df_meaning.specs.declared.locals.Binding.{Binding}
+use Rattle.df_meaning.specs.declared.locals.Remembered.{Remembered}
 
 -- a whole number, if there is one, with at most so great an absolute value
 abbrev pub Within : ℕ → Option ℤ → Type 0
@@ -55,6 +56,21 @@ later_local name found b = if bytes_eq b.name name then Some b.value else found
 -- the value of the last local binding of a name
 abbrev pub local_at : List Binding → Name → Option (Option Value)
 local_at locals name = fold (later_local name) None locals
+
+-- what each name stands for by its last binding
+abbrev pub AreValues : List Binding → (Name → Option (Option Value)) → Type 0
+AreValues locals values = (name : Name) → values name ≡ local_at locals name
+
+abbrev pub bindings_of : List Remembered → List Binding
+bindings_of locals = map (λ (r : Remembered). r.binding) locals
+
+-- each binding, the last one first, has what its name stood for before it
+abbrev pub RememberFrom : List Remembered → Type 0
+RememberFrom [] = Unit {0}
+RememberFrom (last ∷ earlier) = (last.before ≡ local_at (bindings_of (reverse earlier)) last.binding.name) × RememberFrom earlier
+
+abbrev pub AreRemembered : List Remembered → Type 0
+AreRemembered locals = RememberFrom (reverse locals)
 
 -- the names that an expression sees: of parameters and blocks, of the array of its own recurrence, and of its own bindings
 abbrev pub names_of : List Held → List Held → List Binding → List (Name × Bound)

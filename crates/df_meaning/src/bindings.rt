@@ -3,7 +3,7 @@ ghost use Rattle.std.specs.Prelude.{◌≡◌, IfOk};
 ghost use Rattle.df_syntax.specs.Meaning.{parameters_bound};
 ghost use Rattle.df_meaning.specs.Environment.{local_names};
 
-use crate::held::Binding;
+use crate::locals::{Binding, Locals};
 use df_syntax::tree::Parameter;
 use df_values::memory::Memory;
 use df_values::values::Value;
@@ -14,10 +14,10 @@ pub fn bindings(
     alloc: Global,
     parameters: &[Parameter],
     arguments: &[Option<Value>],
-) -> Result<Vec<Binding>, Memory>
-    ensures { IfOk result (λ b. local_names b.items ≡ parameters_bound parameters.now arguments.now) }
+) -> Result<Locals, Memory>
+    ensures { IfOk result (λ b. local_names b ≡ parameters_bound parameters.now arguments.now) }
 {
-    let mut bound = Vec::new(alloc);
+    let mut bound = Locals::new(alloc);
     let mut i = 0;
     while i < parameters.len() && i < arguments.len() {
         let value = arguments[i];

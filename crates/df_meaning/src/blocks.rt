@@ -12,7 +12,8 @@ ghost use Rattle.df_meaning.specs.Environment.{env_of, extended};
 
 use crate::answers::join;
 use crate::calls::call;
-use crate::held::{Binding, Held};
+use crate::held::Held;
+use crate::locals::{Binding, Locals};
 use crate::scope::Scope;
 use crate::table::Table;
 use df_syntax::bound::Bound;
@@ -67,7 +68,7 @@ impl Around<'_> {
     fn value(&self, expr: &Expr) -> Result<Option<Value>, Memory>
         ensures { IfOk result (λ v. v ≡ value_of expr.now (env_of self.now.functions.now self.now.main.now [] [])) }
     {
-        let mut locals = Vec::new(self.alloc);
+        let mut locals = Locals::new(self.alloc);
         let scope = Scope {
             alloc: self.alloc,
             functions: self.functions,
@@ -85,12 +86,12 @@ impl Around<'_> {
         turns: &Turns,
         k: u32,
         elem: &Expr,
-        locals: &mut Vec<Binding>,
+        locals: &mut Locals,
     ) -> Result<Option<Value>, Memory>
         requires ordinary { IsOrdinary (turns.now.lo +ℤ pos k) }
-        requires empty { locals.old.items ≡ [] }
+        requires empty { locals.old ≡ [] }
         ensures value { IfOk result (λ v. v ≡ value_at (env_of self.now.functions.now self.now.main.now own.now []) turns.now.index elem.now (turns.now.lo +ℤ pos k)) }
-        ensures kept { IfOk result (λ _. locals.new.items ≡ []) }
+        ensures kept { IfOk result (λ _. locals.new ≡ []) }
     {
         locals.push(turns.at(k))?;
         let scope = Scope {
@@ -101,7 +102,7 @@ impl Around<'_> {
             call,
         };
         let value = scope.value(elem, locals)?;
-        locals.clear();
+        locals.truncate(0)?;
         Ok(value)
     }
 
@@ -110,7 +111,7 @@ impl Around<'_> {
         requires { IsRange turns.now.lo turns.now.n }
         ensures { IfOk result (λ l. l ≡ members_over (env_of self.now.functions.now self.now.main.now [] []) turns.now.index elem.now turns.now.lo turns.now.n) }
     {
-        let mut locals = Vec::new(self.alloc);
+        let mut locals = Locals::new(self.alloc);
         let mut members = Items::new(self.alloc);
         for k in 0..turns.n {
             let value = self.value_at(&[], turns, k, elem, &mut locals)?;
@@ -131,7 +132,7 @@ impl Around<'_> {
         ensures { IfOk result (λ b. b ≡ Array (before turns.now.lo)
             (recurred (env_of self.now.functions.now self.now.main.now [] []) turns.now.index array turns.now.lo first.now elem.now turns.now.n)) }
     {
-        let mut locals = Vec::new(self.alloc);
+        let mut locals = Locals::new(self.alloc);
         let first = self.value(first)?;
         let mut own = started(self.alloc, array, turns.lo, first)?;
         for k in 0..turns.n {

@@ -3,21 +3,12 @@ ghost use Rattle.std.specs.Prelude.{◌≡◌, ◌++◌, ◌^◌, map, Option, S
 ghost use Rattle.std.specs.Option.{option_copied};
 ghost use Rattle.df_syntax.specs.declared.bound.Bound.TheVariants.{Scalar};
 ghost use Rattle.df_syntax.specs.Meaning.{scalar, element, member_at};
-ghost use Rattle.df_meaning.specs.Environment.{Within, last_held, local_at, is_named};
+ghost use Rattle.df_meaning.specs.Environment.{Within, last_held, is_named};
 
 use crate::answers::Whole;
 use df_syntax::bound::Bound;
 use df_values::name::Name;
 use df_values::values::{ErrorValue, Value};
-
-/// A name that is bound inside an expression, with its value or nothing.
-#[derive(Clone, Copy, Debug)]
-pub struct Binding {
-    /// The name.
-    pub name: Name,
-    /// Its value.
-    pub value: Option<Value>,
-}
 
 /// What a parameter or a block of the main function stands for.
 #[derive(Drop)]
@@ -37,19 +28,6 @@ impl Held {
             None => false,
         }
     }
-}
-
-/// The value of the last binding of a name.
-pub fn local(locals: &[Binding], name: &Name) -> Option<Option<Value>>
-    ensures { result ≡ local_at locals.now name.now }
-{
-    let mut found = None;
-    for binding in locals {
-        if binding.name == *name {
-            found = Some(binding.value);
-        }
-    }
-    found
 }
 
 /// What the last one of a name stands for.

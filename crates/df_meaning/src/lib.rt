@@ -8,6 +8,7 @@ mod calls;
 mod evaluator;
 mod held;
 mod inputs;
+mod locals;
 mod results;
 mod scope;
 mod table;

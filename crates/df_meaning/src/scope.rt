@@ -10,7 +10,8 @@ ghost use Rattle.df_meaning.specs.Environment.{Within, env_of, names_of, held_na
 
 use crate::answers::{Whole, inverted, is_sum, join, negated, ordinary, related, shifted, tested};
 use crate::bindings::bindings;
-use crate::held::{Binding, Held, element_of, held_at, local, scalar_of};
+use crate::held::{Held, element_of, held_at, scalar_of};
+use crate::locals::{Binding, Locals};
 use crate::table::Table;
 use df_syntax::bound::Bound;
 use df_syntax::program::Function;
@@ -47,21 +48,21 @@ impl<F> Scope<'_, F> {
     }
 
     /// The value of a name.
-    fn named(&self, name: &Name, locals: &[Binding]) -> Option<Value>
+    fn named(&self, name: &Name, locals: &Locals) -> Option<Value>
         ensures { result ≡ scalar (bound_at (names_of self.now.main.now self.now.own.now locals.now) name.now) }
     {
-        match local(locals, name) {
+        match locals.get(name) {
             Some(value) => value,
             None => scalar_of(self.outer(name)),
         }
     }
 
     /// The member of an array by its name.
-    fn accessed(&self, name: &Name, at: Option<Whole>, locals: &[Binding]) -> Option<Value>
+    fn accessed(&self, name: &Name, at: Option<Whole>, locals: &Locals) -> Option<Value>
         requires { Within (2 ^ 110) at }
         ensures { result ≡ element (bound_at (names_of self.now.main.now self.now.own.now locals.now) name.now) at }
     {
-        match local(locals, name) {
+        match locals.get(name) {
             Some(_) => None,
             None => element_of(self.outer(name), at),
         }
@@ -74,10 +75,10 @@ impl<
     /// The value of an expression, or nothing.
     #[cycle(value)]
     #[tactic(auto, using(df_syntax::proofs::Senses::forms))]
-    pub fn value(&self, expr: &Expr, locals: &mut Vec<Binding>) -> Result<Option<Value>, Memory>
+    pub fn value(&self, expr: &Expr, locals: &mut Locals) -> Result<Option<Value>, Memory>
         requires { Answers self.now.functions.now (F.pre self.now.call) (F.post self.now.call) }
-        ensures value { IfOk result (λ v. v ≡ value_of expr.now (env_of self.now.functions.now self.now.main.now self.now.own.now locals.old.items)) }
-        ensures kept { IfOk result (λ _. locals.new.items ≡ locals.old.items) }
+        ensures value { IfOk result (λ v. v ≡ value_of expr.now (env_of self.now.functions.now self.now.main.now self.now.own.now locals.old)) }
+        ensures kept { IfOk result (λ _. locals.new ≡ locals.old) }
     {
         match expr.node.get() {
             Node::Number { value } => Ok(Some(Value::Int(*value))),
@@ -127,7 +128,7 @@ impl<
                 let outer = locals.len();
                 self.define(definitions.as_slice(), locals)?;
                 let value = self.only(values.as_slice(), locals)?;
-                locals.truncate(outer);
+                locals.truncate(outer)?;
                 Ok(value)
             }
             Node::Replaced {
@@ -172,11 +173,11 @@ impl<
     /// The whole number that a subscript stands for.
     #[cycle(value)]
     #[tactic(auto, using(df_syntax::proofs::Senses::wholes))]
-    fn whole(&self, expr: &Expr, locals: &mut Vec<Binding>) -> Result<Option<Whole>, Memory>
+    fn whole(&self, expr: &Expr, locals: &mut Locals) -> Result<Option<Whole>, Memory>
         requires { Answers self.now.functions.now (F.pre self.now.call) (F.post self.now.call) }
-        ensures value { IfOk result (λ k. k ≡ whole_of expr.now (env_of self.now.functions.now self.now.main.now self.now.own.now locals.old.items)) }
+        ensures value { IfOk result (λ k. k ≡ whole_of expr.now (env_of self.now.functions.now self.now.main.now self.now.own.now locals.old)) }
         ensures small { IfOk result (λ k. Within (2 ^ 110) k) }
-        ensures kept { IfOk result (λ _. locals.new.items ≡ locals.old.items) }
+        ensures kept { IfOk result (λ _. locals.new ≡ locals.old) }
     {
         match expr.node.get() {
             Node::Parens { of } => Ok(self.whole(of, locals)?),
@@ -198,12 +199,12 @@ impl<
         &self,
         first: Option<Value>,
         rest: &[Link],
-        locals: &mut Vec<Binding>,
+        locals: &mut Locals,
     ) -> Result<Option<Whole>, Memory>
         requires { Answers self.now.functions.now (F.pre self.now.call) (F.post self.now.call) }
-        ensures value { IfOk result (λ k. k ≡ sum_by (value_in self.now.functions.now self.now.main.now self.now.own.now locals.old.items) (ordinary first) rest.now) }
+        ensures value { IfOk result (λ k. k ≡ sum_by (value_in self.now.functions.now self.now.main.now self.now.own.now locals.old) (ordinary first) rest.now) }
         ensures small { IfOk result (λ k. Within (2 ^ 110) k) }
-        ensures kept { IfOk result (λ _. locals.new.items ≡ locals.old.items) }
+        ensures kept { IfOk result (λ _. locals.new ≡ locals.old) }
     {
         let mut sum = ordinary(first);
         for link in rest {
@@ -215,10 +216,10 @@ impl<
 
     /// The value of an only expression.
     #[cycle(value)]
-    pub fn only(&self, values: &[Expr], locals: &mut Vec<Binding>) -> Result<Option<Value>, Memory>
+    pub fn only(&self, values: &[Expr], locals: &mut Locals) -> Result<Option<Value>, Memory>
         requires { Answers self.now.functions.now (F.pre self.now.call) (F.post self.now.call) }
-        ensures value { IfOk result (λ v. v ≡ only_value values.now (value_in self.now.functions.now self.now.main.now self.now.own.now locals.old.items)) }
-        ensures kept { IfOk result (λ _. locals.new.items ≡ locals.old.items) }
+        ensures value { IfOk result (λ v. v ≡ only_value values.now (value_in self.now.functions.now self.now.main.now self.now.own.now locals.old)) }
+        ensures kept { IfOk result (λ _. locals.new ≡ locals.old) }
     {
         match values {
             [value] => Ok(self.value(value, locals)?),
@@ -228,11 +229,11 @@ impl<
 
     /// Binds each definition in order.
     #[cycle(value)]
-    fn define(&self, definitions: &[Definition], locals: &mut Vec<Binding>) -> Result<(), Memory>
+    fn define(&self, definitions: &[Definition], locals: &mut Locals) -> Result<(), Memory>
         requires { Answers self.now.functions.now (F.pre self.now.call) (F.post self.now.call) }
-        ensures bound { IfOk result (λ _. env_of self.now.functions.now self.now.main.now self.now.own.now locals.new.items
-            ≡ definitions_bound (env_of self.now.functions.now self.now.main.now self.now.own.now locals.old.items) definitions.now) }
-        ensures kept { IfOk result (λ _. take (length locals.old.items) locals.new.items ≡ locals.old.items) }
+        ensures bound { IfOk result (λ _. env_of self.now.functions.now self.now.main.now self.now.own.now locals.new
+            ≡ definitions_bound (env_of self.now.functions.now self.now.main.now self.now.own.now locals.old) definitions.now) }
+        ensures kept { IfOk result (λ _. take (length locals.old) locals.new ≡ locals.old) }
     {
         for definition in definitions {
             let value = self.value(&definition.value, locals)?;
@@ -250,11 +251,11 @@ impl<
         &self,
         first: Option<Value>,
         rest: &[Link],
-        locals: &mut Vec<Binding>,
+        locals: &mut Locals,
     ) -> Result<Option<Value>, Memory>
         requires { Answers self.now.functions.now (F.pre self.now.call) (F.post self.now.call) }
-        ensures value { IfOk result (λ v. v ≡ joined_by (value_in self.now.functions.now self.now.main.now self.now.own.now locals.old.items) first rest.now) }
-        ensures kept { IfOk result (λ _. locals.new.items ≡ locals.old.items) }
+        ensures value { IfOk result (λ v. v ≡ joined_by (value_in self.now.functions.now self.now.main.now self.now.own.now locals.old) first rest.now) }
+        ensures kept { IfOk result (λ _. locals.new ≡ locals.old) }
     {
         let mut joined = first;
         for link in rest {
@@ -266,15 +267,11 @@ impl<
 
     /// The value that the arms choose, or None where no arm does.
     #[cycle(value)]
-    fn chosen(
-        &self,
-        arms: &[Arm],
-        locals: &mut Vec<Binding>,
-    ) -> Result<Option<Option<Value>>, Memory>
+    fn chosen(&self, arms: &[Arm], locals: &mut Locals) -> Result<Option<Option<Value>>, Memory>
         requires { Answers self.now.functions.now (F.pre self.now.call) (F.post self.now.call) }
         ensures value { IfOk result (λ r. (last : Option Value)
-            → arms_by (value_in self.now.functions.now self.now.main.now self.now.own.now locals.old.items) arms.now last ≡ unwrap_or r last) }
-        ensures kept { IfOk result (λ _. locals.new.items ≡ locals.old.items) }
+            → arms_by (value_in self.now.functions.now self.now.main.now self.now.own.now locals.old) arms.now last ≡ unwrap_or r last) }
+        ensures kept { IfOk result (λ _. locals.new ≡ locals.old) }
     {
         for arm in arms {
             match self.value(&arm.test, locals)? {
@@ -289,14 +286,10 @@ impl<
 
     /// The values of expressions in order.
     #[cycle(value)]
-    fn values(
-        &self,
-        exprs: &[Expr],
-        locals: &mut Vec<Binding>,
-    ) -> Result<Vec<Option<Value>>, Memory>
+    fn values(&self, exprs: &[Expr], locals: &mut Locals) -> Result<Vec<Option<Value>>, Memory>
         requires { Answers self.now.functions.now (F.pre self.now.call) (F.post self.now.call) }
-        ensures values { IfOk result (λ vs. vs.items ≡ map (value_in self.now.functions.now self.now.main.now self.now.own.now locals.old.items) exprs.now) }
-        ensures kept { IfOk result (λ _. locals.new.items ≡ locals.old.items) }
+        ensures values { IfOk result (λ vs. vs.items ≡ map (value_in self.now.functions.now self.now.main.now self.now.own.now locals.old) exprs.now) }
+        ensures kept { IfOk result (λ _. locals.new ≡ locals.old) }
     {
         let mut values = Vec::with_capacity(self.alloc, exprs.len())?;
         for expr in exprs {
@@ -311,12 +304,12 @@ impl<
         &self,
         name: &Name,
         arguments: &[Expr],
-        locals: &mut Vec<Binding>,
+        locals: &mut Locals,
     ) -> Result<Option<Value>, Memory>
         requires { Answers self.now.functions.now (F.pre self.now.call) (F.post self.now.call) }
         ensures value { IfOk result (λ v. v ≡ calls (reverse self.now.functions.now) name.now
-            (map (value_in self.now.functions.now self.now.main.now self.now.own.now locals.old.items) arguments.now)) }
-        ensures kept { IfOk result (λ _. locals.new.items ≡ locals.old.items) }
+            (map (value_in self.now.functions.now self.now.main.now self.now.own.now locals.old) arguments.now)) }
+        ensures kept { IfOk result (λ _. locals.new ≡ locals.old) }
     {
         let values = self.values(arguments, locals)?;
         (self.call)(self.alloc, self.functions, name, &values)

@@ -4,25 +4,26 @@ ghost use Rattle.std.specs.Option.{option_copied};
 ghost use Rattle.df_meaning.specs.Environment.{last_held};
 
 use crate::held::Held;
+use df_names::NameMap;
 use df_syntax::bound::Bound;
 use df_values::memory::Memory;
 use df_values::name::Name;
 use std::alloc::Global;
-use std::collections::HashMap;
 use std::marker::Model;
 
 /// What parameters and blocks stand for, in order.
 ///
-/// Beside the list stands the place of the last one of each name, so that a look-up takes no longer where there are more.
+/// Beside the list stands the place of the last one of each name, so that a look-up takes a number of steps that
+/// grows with the logarithm of their number.
 #[derive(Drop)]
 pub struct Table {
     held: Vec<Held>,
-    places: HashMap<Name, usize>,
+    places: NameMap<usize>,
 }
 
 impl Model for Table {
-    ghost use Rattle.std.specs.Prelude.{List, bytes_eq};
-    ghost use Rattle.std.specs.HashMap.{get};
+    ghost use Rattle.std.specs.Prelude.{List};
+    ghost use Rattle.df_names.specs.Found.{names_of};
     ghost use Rattle.df_meaning.specs.Environment.{HavePlaces};
     ghost use Rattle.df_meaning.specs.declared.held.Held.{Held};
 
@@ -30,7 +31,7 @@ impl Model for Table {
 
     ghost view = { λ t. t.held.items };
 
-    ghost invariant = { λ t. HavePlaces t.held.items (λ name. get bytes_eq t.places name) };
+    ghost invariant = { λ t. HavePlaces t.held.items (names_of t.places) };
 }
 
 impl Table {
@@ -40,7 +41,7 @@ impl Table {
     {
         Table {
             held: Vec::new(alloc),
-            places: HashMap::new(alloc),
+            places: NameMap::new(alloc),
         }
     }
 
@@ -53,7 +54,7 @@ impl Table {
             mut places,
         } = self;
         if let Some(name) = held.name {
-            places.insert(name, items.len())?;
+            places.bind(name, items.len())?;
         }
         items.push(held)?;
         Ok(Table {
@@ -67,7 +68,7 @@ impl Table {
         ensures { option_copied result ≡ last_held self.now name.now }
     {
         match self.places.get(name) {
-            Some(place) => match self.held.get(*place) {
+            Some(place) => match self.held.get(place) {
                 Some(held) => Some(&held.bound),
                 None => None,
             },

@@ -5,7 +5,7 @@ use Rattle.df_meaning.proofs.bindings.bindings.Given as goal
 
 abbrev pub invariant-loop-i : goal.invariant-loop-i
 invariant-loop-i l = record {
-  bound : local_names l.bound.items ≡ parameters_bound (take l.i l.parameters) (take l.i l.arguments);
+  bound : local_names l.bound ≡ parameters_bound (take l.i l.parameters) (take l.i l.arguments);
   within : l.i ≤ length l.parameters;
   inside : l.i ≤ length l.arguments;
 }

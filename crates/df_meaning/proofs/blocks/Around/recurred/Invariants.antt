@@ -10,5 +10,5 @@ invariant-loop-k l = record {
     name = Some l.fn.array;
     bound = Array (before l.turns.lo) (recurred (env_of l.self.functions.now l.self.main.now [] []) l.turns.index l.fn.array l.turns.lo l.fn.first l.elem l.k);
   };
-  empty : l.locals.items ≡ [];
+  empty : l.locals ≡ [];
 }

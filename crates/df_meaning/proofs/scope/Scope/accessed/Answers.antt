@@ -5,9 +5,9 @@ use Rattle.df_meaning.proofs.scope.Scope.accessed.Goals as goal
 
 pub returns-in-Some : goal.returns-in-Some
 returns-in-Some g c =
-    rw (seen (held_names c.args.self.now.main.now ++ held_names c.args.self.now.own.now) c.args.locals.now c.args.name.now, ← c.local.ensures, c.in-Some.is) refl
+    rw (seen (held_names c.args.self.now.main.now ++ held_names c.args.self.now.own.now) c.args.locals.now c.args.name.now, ← c.get.ensures, c.in-Some.is) refl
 
 pub returns-in-None : goal.returns-in-None
 returns-in-None g c =
-    rw (seen (held_names c.args.self.now.main.now ++ held_names c.args.self.now.own.now) c.args.locals.now c.args.name.now, ← c.local.ensures, c.in-None.is)
+    rw (seen (held_names c.args.self.now.main.now ++ held_names c.args.self.now.own.now) c.args.locals.now c.args.name.now, ← c.get.ensures, c.in-None.is)
     (rw c.outer.ensures at c.element_of.ensures)
