@@ -17,6 +17,8 @@ use Rattle.df_syntax.specs.Demands.{first_refusal}
 use Rattle.df_syntax.specs.FreshNames.{Taken, Fresh, also, is_new, with_defined, definitions_fresh, all_fresh, node_fresh, is_fresh}
 use Rattle.df_syntax.specs.Trees.{Opened, layer_of, fold_rolled}
 use Rattle.df_syntax.specs.TreeInduction.{Proved, without, tree_induction}
+use Rattle.df_syntax.proofs.Tests.{and_left}
+use Rattle.std.proofs.lemmas.Bool.{and_from}
 use Rattle.df_syntax.proofs.FirstRefusals.{begin_holds, rest_holds, head_holds, tail_holds}
 use Rattle.df_types.specs.declared.answers.CheckAnswer.TheVariants.{WrongArity}
 use Rattle.df_types.specs.declared.entry.Entry.TheVariants as entry
@@ -24,7 +26,7 @@ use Rattle.df_types.specs.Demands.{demand}
 use Rattle.df_types.specs.Scopes.{Names, bound}
 use Rattle.df_types.specs.Sorts.{integer, boolean, element_of, operator_sort, chain_sort, is_equality, is_of_any, value_sort}
 use Rattle.df_types.specs.Types.{Look, look_of, node_look, node_demands, node_spread, asked, asked_operand, asked_each, asked_links, asked_arms, assign_demands, fresh, definition_demands, inside, range_demands, count_of, body_demands, let_demands, for_demands, call_demands, function_at, known_array, operand_sort, if_sort}
-use Rattle.df_types.proofs.NewParts.{Covers, firsts, both_true, left_true, covers_bind, new_by, Agrees, operand_new, each_new, body_new, several_are_some, New, Parts, Definitions, Assigns, names_defined, linked, armed, armed_new, assigned, assigned_new, defining, defining_new, agree_all, asked_here, links_new, arms_new, assigns_new, definitions_new}
+use Rattle.df_types.proofs.NewParts.{Covers, firsts, covers_bind, new_by, Agrees, operand_new, each_new, body_new, several_are_some, New, Parts, Definitions, Assigns, names_defined, linked, armed, armed_new, assigned, assigned_new, defining, defining_new, agree_all, asked_here, links_new, arms_new, assigns_new, definitions_new}
 
 module _ (functions : List Function) where
   abbrev look : Expr → Look
@@ -57,16 +59,16 @@ module _ (functions : List Function) where
       let lows = asked (look low.0) integer names in
       let highs = asked (look high.0) integer names in
       let bounds : first_refusal (lows ++ highs) ≡ None = tail_holds (fresh index names) (lows ++ highs) h in
-      both_true (is_fresh low.0 taken) _ (asked_here look taken names covers low integer (begin_holds lows highs bounds))
-      (both_true (is_fresh high.0 taken) _ (asked_here look taken names covers high integer (rest_holds lows highs bounds))
-      (both_true (is_new taken index) _ (new_by taken names index covers (head_holds (fresh index names) (lows ++ highs) h)) inner))
+      and_from (is_fresh low.0 taken) _ (asked_here look taken names covers low integer (begin_holds lows highs bounds))
+      (and_from (is_fresh high.0 taken) _ (asked_here look taken names covers high integer (rest_holds lows highs bounds))
+      (and_from (is_new taken index) _ (new_by taken names index covers (head_holds (fresh index names) (lows ++ highs) h)) inner))
 
   -- two parts that are asked for one behind the other
   two_new : (a b : (e : Expr) × New look e) (s t : Sort) (taken : Taken) (names : Names) → Covers taken names
       → first_refusal (asked (look a.0) s names ++ asked (look b.0) t names) ≡ None
       → (is_fresh a.0 taken && is_fresh b.0 taken) ≡ true
   two_new a b s t taken names covers h =
-      both_true (is_fresh a.0 taken) (is_fresh b.0 taken)
+      and_from (is_fresh a.0 taken) (is_fresh b.0 taken)
       (asked_here look taken names covers a s (begin_holds (asked (look a.0) s names) (asked (look b.0) t names) h))
       (asked_here look taken names covers b t (rest_holds (asked (look a.0) s names) (asked (look b.0) t names) h))
 
@@ -79,7 +81,7 @@ module _ (functions : List Function) where
       let sorts = map (λ (p : Parameter). p.sort) f.parameters in
       let many = demand (length looks == length f.parameters && length f.results == 1) (WrongArity place) in
       let same : length looks ≡ length f.parameters = eqb-true (length looks) (length f.parameters)
-      (left_true (length looks == length f.parameters) (length f.results == 1) (head_holds many (asked_each looks sorts names) h)) in
+      (and_left (length looks == length f.parameters) (length f.results == 1) (head_holds many (asked_each looks sorts names) h)) in
       each_new taken names covers looks (map is_fresh (firsts as_)) sorts (agree_all look as_)
       (omega (arith, same, length-map f.parameters (λ (p : Parameter). p.sort)))
       (tail_holds many (asked_each looks sorts names) h)
@@ -92,8 +94,8 @@ module _ (functions : List Function) where
       let own = definition_demands (defining look (firsts ds)) names in
       let value = (look e.0).demands (bound (names_defined look ds) names) in
       let first = definitions_new look ds taken names covers (begin_holds own value h) in
-      both_true (definitions_fresh (defining_new (firsts ds)) taken) _ first.0
-      (both_true (is_fresh e.0 (with_defined (defining_new (firsts ds)) taken)) true (e.1.plain _ _ first.1 (rest_holds own value h)) refl)
+      and_from (definitions_fresh (defining_new (firsts ds)) taken) _ first.0
+      (and_from (is_fresh e.0 (with_defined (defining_new (firsts ds)) taken)) true (e.1.plain _ _ first.1 (rest_holds own value h)) refl)
   let_new place ds (e ∷ f ∷ es) taken names covers h = cc
 
   let_spread_new : (ds : Definitions look) (es : Parts look) (taken : Taken) (names : Names) (results : List Sort) → Covers taken names
@@ -105,7 +107,7 @@ module _ (functions : List Function) where
       let own = definition_demands (defining look (firsts ds)) names in
       let body = body_demands (map look (firsts es)) results (bound (names_defined look ds) names) in
       let first = definitions_new look ds taken names covers (begin_holds own body h) in
-      both_true (definitions_fresh (defining_new (firsts ds)) taken) _ first.0
+      and_from (definitions_fresh (defining_new (firsts ds)) taken) _ first.0
       (body_new _ _ first.1 (map look (firsts es)) (map is_fresh (firsts es)) results (agree_all look es) (several_are_some results several) count
       (rest_holds own body h))
 
@@ -125,9 +127,9 @@ module _ (functions : List Function) where
       let first = definitions_new look ds taken names covers (begin_holds own (tests ++ (assigns ++ value)) h) in
       let after : first_refusal (tests ++ (assigns ++ value)) ≡ None = rest_holds own (tests ++ (assigns ++ value)) h in
       let end : first_refusal (assigns ++ value) ≡ None = rest_holds tests (assigns ++ value) after in
-      both_true (definitions_fresh (defining_new (firsts ds)) taken) _ first.0
-      (both_true (is_fresh test.0 _) _ (asked_here look _ _ first.1 test boolean (begin_holds tests (assigns ++ value) after))
-      (both_true (list_all (λ (a : Named × Fresh). a.1 _) (assigned_new (firsts as_))) _
+      and_from (definitions_fresh (defining_new (firsts ds)) taken) _ first.0
+      (and_from (is_fresh test.0 _) _ (asked_here look _ _ first.1 test boolean (begin_holds tests (assigns ++ value) after))
+      (and_from (list_all (λ (a : Named × Fresh). a.1 _) (assigned_new (firsts as_))) _
       (assigns_new look _ _ first.1 as_ loop (begin_holds assigns value end)) (last.1.plain _ _ first.1 (rest_holds assigns value end))))
 
   step : (e : Expr) (y : Proved (New look)) → e.node ≡ roll-Node (without (New look) y) → New look e
@@ -147,7 +149,7 @@ module _ (functions : List Function) where
       new_at e (Node-F.Chain first.0 (firsts rest)) is
       (λ taken names covers h.
       let sort = chain_sort (linked look (firsts rest)) in
-      both_true (is_fresh first.0 taken) _ (asked_here look taken names covers first sort
+      and_from (is_fresh first.0 taken) _ (asked_here look taken names covers first sort
       (begin_holds (asked (look first.0) sort names) (asked_links sort (linked look (firsts rest)) names) h))
       (links_new look taken names covers rest sort (rest_holds (asked (look first.0) sort names) (asked_links sort (linked look (firsts rest)) names) h)))
       (λ taken names results covers count several h. cc)
@@ -156,7 +158,7 @@ module _ (functions : List Function) where
       (λ taken names covers h.
       let one = asked_operand (is_equality rel) (look left.0) names in
       let other = operand_sort (is_equality rel) (look left.0) names in
-      both_true (is_fresh left.0 taken) (is_fresh right.0 taken)
+      and_from (is_fresh left.0 taken) (is_fresh right.0 taken)
       (operand_new (look left.0) (is_fresh left.0) left.1 taken names covers (is_equality rel) (begin_holds one (asked (look right.0) other names) h))
       (asked_here look taken names covers right other (rest_holds one (asked (look right.0) other names) h)))
       (λ taken names results covers count several h. cc)
@@ -178,7 +180,7 @@ module _ (functions : List Function) where
       (λ taken names covers h.
       let sort = if_sort (armed look (firsts arms)) (look last.0) names in
       let one = asked_arms sort (armed look (firsts arms)) names in
-      both_true (list_all (λ (a : Fresh × Fresh). a.0 taken && a.1 taken) (armed_new (firsts arms))) _
+      and_from (list_all (λ (a : Fresh × Fresh). a.0 taken && a.1 taken) (armed_new (firsts arms))) _
       (arms_new look taken names covers arms sort (begin_holds one (asked (look last.0) sort names) h))
       (asked_here look taken names covers last sort (rest_holds one (asked (look last.0) sort names) h)))
       (λ taken names results covers count several h. cc)
@@ -209,7 +211,7 @@ module _ (functions : List Function) where
   step e (Node-F.Array at value) is =
       new_at e (Node-F.Array at.0 value.0) is
       (λ taken names covers h.
-      both_true (is_fresh at.0 taken) (is_fresh value.0 taken)
+      and_from (is_fresh at.0 taken) (is_fresh value.0 taken)
       (asked_here look taken names covers at integer (begin_holds (asked (look at.0) integer names) (asked_operand true (look value.0) names) h))
       (operand_new (look value.0) (is_fresh value.0) value.1 taken names covers true
       (rest_holds (asked (look at.0) integer names) (asked_operand true (look value.0) names) h)))

@@ -1,5 +1,6 @@
 -- The parts of an expression: where what is demanded of one holds, the names that it binds are new.
-use Rattle.std.proofs.Common.{◌≡◌, ℕ, ◌≤◌, Bool, true, false, not, ◌&&◌, ◌||◌, if◌then◌else◌, List, [], ◌∷◌, ◌++◌, map, length, refl, ◌∙◌, ap, subst, arith, Option, Some, None, bytes_eq}
+use Rattle.std.proofs.Common.{◌≡◌, ℕ, ◌≤◌, Bool, true, false, not, ◌&&◌, ◌||◌, if◌then◌else◌, List, [], ◌∷◌, ◌++◌, map, length, refl, subst, arith, Option, Some, None, bytes_eq}
+use Rattle.std.proofs.lemmas.Bool.{and_from}
 use Rattle.std.specs.Prelude.{nat_lt}
 use Rattle.std.specs.List.{list_all}
 use Rattle.std.specs.Option.{is_some, is_none}
@@ -28,17 +29,6 @@ use Rattle.df_types.specs.Types.{Look, asked, asked_operand, asked_each, asked_l
 
 abbrev pub Covers : Taken → Names → Type 0
 Covers taken names = (n : List ℕ) → taken n ≡ true → is_some (names n) ≡ true
-
-pub both_true : (a b : Bool) → a ≡ true → b ≡ true → (a && b) ≡ true
-both_true a b h k = ap (λ c. c && b) h ∙ k
-
-pub left_true : (a b : Bool) → (a && b) ≡ true → a ≡ true
-left_true true b h = refl
-left_true false b h = cc
-
-pub right_true : (a b : Bool) → (a && b) ≡ true → b ≡ true
-right_true true b h = h
-right_true false b h = cc
 
 pub covers_bind : (taken : Taken) (names : Names) (name : List ℕ) (e : Entry) → Covers taken names → Covers (also taken name) (bind names name e)
 unfolding also bind
@@ -89,7 +79,7 @@ module _ (taken : Taken) (names : Names) (covers : Covers taken names) where
   each_new [] [] ss agree within h = refl
   each_new (p ∷ ps) (f ∷ fs) [] agree within h = absurd (omega (arith, within))
   each_new (p ∷ ps) (f ∷ fs) (s ∷ ss) agree within h =
-      both_true (f taken) (all_fresh fs taken)
+      and_from (f taken) (all_fresh fs taken)
       (asked_new p f agree.0 taken names covers s (begin_holds (asked p s names) (asked_each ps ss names) h))
       (each_new ps fs ss agree.1 (omega (arith, within)) (rest_holds (asked p s names) (asked_each ps ss names) h))
   each_new [] (f ∷ fs) ss agree within h = absurd agree
@@ -113,7 +103,7 @@ module _ (taken : Taken) (names : Names) (covers : Covers taken names) where
       by : (b : Bool) → nat_lt 1 (length ss) ≡ b
           → ((c : Bool) → nat_lt 1 (length ss) ≡ c → first_refusal (if c then p.spread ss names else asked_each (p ∷ []) ss names) ≡ None)
           → all_fresh (f ∷ []) taken ≡ true
-      by true is k = both_true (f taken) true (agree.0.spread taken names ss covers count is (k true is)) refl
+      by true is k = and_from (f taken) true (agree.0.spread taken names ss covers count is (k true is)) refl
       by false is k = counted_new (p ∷ []) (f ∷ []) ss agree some count (k false is)
   body_new (p ∷ []) [] ss agree some count h = absurd agree
   body_new (p ∷ []) (f ∷ g ∷ fs) ss agree some count h = absurd agree.1
@@ -179,7 +169,7 @@ module _ (look : Expr → Look) where
         → list_all (λ (l : Op × Fresh). l.1 taken) (linked_new (firsts ls)) ≡ true
     links_new [] sort h = refl
     links_new (l ∷ ls) sort h =
-        both_true (is_fresh l.0.operand taken) _ (asked_here (l.0.operand, l.1) sort
+        and_from (is_fresh l.0.operand taken) _ (asked_here (l.0.operand, l.1) sort
         (begin_holds (asked (look l.0.operand) sort names) (asked_links sort (linked (firsts ls)) names) h))
         (links_new ls sort (rest_holds (asked (look l.0.operand) sort names) (asked_links sort (linked (firsts ls)) names) h))
 
@@ -189,8 +179,8 @@ module _ (look : Expr → Look) where
     arms_new (a ∷ as_) sort h =
         let one = asked (look a.0.test) boolean names ++ asked (look a.0.value) sort names in
         let first : first_refusal one ≡ None = begin_holds one (asked_arms sort (armed (firsts as_)) names) h in
-        both_true (is_fresh a.0.test taken && is_fresh a.0.value taken) _
-        (both_true (is_fresh a.0.test taken) (is_fresh a.0.value taken)
+        and_from (is_fresh a.0.test taken && is_fresh a.0.value taken) _
+        (and_from (is_fresh a.0.test taken) (is_fresh a.0.value taken)
         (asked_here (a.0.test, a.1.0) boolean (begin_holds (asked (look a.0.test) boolean names) (asked (look a.0.value) sort names) first))
         (asked_here (a.0.value, a.1.1) sort (rest_holds (asked (look a.0.test) boolean names) (asked (look a.0.value) sort names) first)))
         (arms_new as_ sort (rest_holds one (asked_arms sort (armed (firsts as_)) names) h))
@@ -200,7 +190,7 @@ module _ (look : Expr → Look) where
     assigns_new [] loop h = refl
     assigns_new (a ∷ as_) loop h =
         let one = known a.0.name.name a.0.name.place loop ∷ asked (look a.0.value) (value_sort (loop a.0.name.name)) names in
-        both_true (is_fresh a.0.value taken) _
+        and_from (is_fresh a.0.value taken) _
         (asked_here (a.0.value, a.1) (value_sort (loop a.0.name.name))
         (tail_holds (known a.0.name.name a.0.name.place loop) (asked (look a.0.value) (value_sort (loop a.0.name.name)) names)
         (begin_holds one (assign_demands loop (assigned (firsts as_)) names) h)))
@@ -217,7 +207,7 @@ module _ (look : Expr → Look) where
       let after : first_refusal (own ++ others) ≡ None = tail_holds (fresh d.0.name names) (own ++ others) h in
       let rest = definitions_new ds (also taken d.0.name.name) inner (covers_bind taken names d.0.name.name (entry.Local d.0.sort) covers)
       (rest_holds own others after) in (
-        both_true (is_new taken d.0.name) _ (new_by taken names d.0.name covers (head_holds (fresh d.0.name names) (own ++ others) h))
-            (both_true (is_fresh d.0.value taken) _ (asked_here taken names covers (d.0.value, d.1) d.0.sort (begin_holds own others after)) rest.0),
+        and_from (is_new taken d.0.name) _ (new_by taken names d.0.name covers (head_holds (fresh d.0.name names) (own ++ others) h))
+            (and_from (is_fresh d.0.value taken) _ (asked_here taken names covers (d.0.value, d.1) d.0.sort (begin_holds own others after)) rest.0),
         rest.1,
       )

@@ -14,6 +14,9 @@ use Rattle.df_syntax.specs.declared.program.Program.{Program}
 use Rattle.df_syntax.specs.Demands.{first_refusal}
 use Rattle.df_syntax.specs.FreshNames.{Taken, Fresh, also, is_new, is_fresh, all_fresh, parameters_fresh, with_parameters, function_fresh, declared_names, names_are_new}
 use Rattle.df_syntax.specs.WellBuilt.{is_some_list, is_bounded, function_bounded, program_bounded}
+use Rattle.df_syntax.proofs.Tests.{and_left, and_right}
+use Rattle.std.proofs.Math.Bool.{or_assoc}
+use Rattle.std.proofs.lemmas.Bool.{and_from, or_left, or_right}
 use Rattle.df_syntax.proofs.FirstRefusals.{begin_holds, rest_holds, head_holds, tail_holds}
 use Rattle.df_types.specs.declared.answers.CheckAnswer.TheVariants.{WrongArity}
 use Rattle.df_types.specs.declared.entry.Entry.TheVariants as entry
@@ -22,7 +25,7 @@ use Rattle.df_types.specs.Scopes.{Names, Binding, bound}
 use Rattle.df_types.specs.Sources.{demands, fresh_demands, numbered, later, all_names, parameters, constants, declared, known_names, arrays, last_parameters, constant_demands, all_range_demands, first_place, results_demands, function_demands, functions_demands, is_empty}
 use Rattle.df_types.specs.Types.{Look, look_of, fresh, asked_each, body_demands, count_of}
 use Rattle.df_types.proofs.NewForms.{expression_new}
-use Rattle.df_types.proofs.NewParts.{Covers, both_true, left_true, right_true, covers_bind, new_by, AgreeAll, counted_new, body_new}
+use Rattle.df_types.proofs.NewParts.{Covers, covers_bind, new_by, AgreeAll, counted_new, body_new}
 
 -- ---- functions
 
@@ -33,7 +36,7 @@ parameters_new (p ∷ ps) taken names covers h =
     let inner = bind names p.name.name (entry.Local p.sort) in
     let rest = parameters_new ps (also taken p.name.name) inner (covers_bind taken names p.name.name (entry.Local p.sort) covers)
     (tail_holds (fresh p.name names) (fresh_demands (parameters ps) inner) h) in (
-      both_true (is_new taken p.name) _ (new_by taken names p.name covers
+      and_from (is_new taken p.name) _ (new_by taken names p.name covers
           (head_holds (fresh p.name names) (fresh_demands (parameters ps) inner) h)) rest.0,
       rest.1,
     )
@@ -72,7 +75,7 @@ module _ (functions : List Function) where
       let own = fresh_demands (parameters f.parameters) names in
       let inner = bound (parameters f.parameters) names in
       let first = parameters_new f.parameters taken names covers (begin_holds own (results_demands functions is_last f inner) h) in
-      both_true (parameters_fresh f.parameters taken) _ first.0
+      and_from (parameters_fresh f.parameters taken) _ first.0
       (sym (list_all-map (λ (g : Fresh). g (with_parameters f.parameters taken)) is_fresh f.values)
       ∙ results_new is_last f (with_parameters f.parameters taken) inner first.1 some (rest_holds own (results_demands functions is_last f inner) h))
 
@@ -82,9 +85,9 @@ module _ (functions : List Function) where
   functions_new [] taken names covers some h = refl
   functions_new (f ∷ fs) taken names covers some h =
       let one = function_demands functions (is_empty fs) f names in
-      both_true (function_fresh taken f) _
-      (function_new (is_empty fs) f taken names covers (left_true (is_some_list f.results) _ some) (begin_holds one (functions_demands functions fs names) h))
-      (functions_new fs taken names covers (right_true (is_some_list f.results) _ some) (rest_holds one (functions_demands functions fs names) h))
+      and_from (function_fresh taken f) _
+      (function_new (is_empty fs) f taken names covers (and_left (is_some_list f.results) _ some) (begin_holds one (functions_demands functions fs names) h))
+      (functions_new fs taken names covers (and_right (is_some_list f.results) _ some) (rest_holds one (functions_demands functions fs names) h))
 
 -- ---- the names of constants and functions
 
@@ -113,11 +116,7 @@ is_among_functions i (f ∷ fs) n = ap (λ b. bytes_eq f.name.name n || b) (is_a
 
 is_among_append : (as_ bs : List Binding) (n : List ℕ) → is_among (as_ ++ bs) n ≡ (is_among as_ n || is_among bs n)
 is_among_append [] bs n = refl
-is_among_append (a ∷ as_) bs n = ap (λ b. bytes_eq a.0.name n || b) (is_among_append as_ bs n) ∙ grouped (bytes_eq a.0.name n) (is_among as_ n) (is_among bs n)
-  where
-    grouped : (a m t : Bool) → (a || (m || t)) ≡ ((a || m) || t)
-    grouped true m t = refl
-    grouped false m t = refl
+is_among_append (a ∷ as_) bs n = ap (λ b. bytes_eq a.0.name n || b) (is_among_append as_ bs n) ∙ sym (or_assoc (bytes_eq a.0.name n) (is_among as_ n) (is_among bs n))
 
 declared_is : (p : Program) (n : List ℕ) → is_among (all_names p) n ≡ declared_names p n
 declared_is p n =
@@ -125,19 +124,11 @@ declared_is p n =
     ∙ (ap (λ b. b || is_among (numbered 0 p.functions) n) (is_among_constants p.constants n) ∙ ap
     (λ b. list_any (λ (c : Constant). bytes_eq c.name.name n) p.constants || b) (is_among_functions 0 p.functions n))
 
-nothing_taken : (b : Bool) → b ≡ true → (b || false) ≡ true
-nothing_taken true h = refl
-nothing_taken false h = cc
-
-or_right : (a b : Bool) → b ≡ true → (a || b) ≡ true
-or_right true b h = refl
-or_right false b h = h
-
 covers_known : (p : Program) → Covers (declared_names p) (known_names p)
 covers_known p n h =
     let all : Covers (λ m. is_among (all_names p) m || false) (declared p) = covers_bound (all_names p) (λ _. false) nothing (λ m k. cc) in
     covers_bound (constants p.constants) _ (declared p) all n
-    (or_right (is_among (constants p.constants) n) _ (nothing_taken (is_among (all_names p) n) (declared_is p n ∙ h)))
+    (or_right (is_among (constants p.constants) n) _ (or_left (is_among (all_names p) n) false (declared_is p n ∙ h)))
 
 -- ---- whole sources
 
@@ -156,8 +147,8 @@ names_new p some h =
 have_results : (fs : List Function) → list_all function_bounded fs ≡ true → list_all (λ (f : Function). is_some_list f.results) fs ≡ true
 have_results [] h = refl
 have_results (f ∷ fs) h =
-    both_true (is_some_list f.results) _ (left_true (is_some_list f.results) _ (left_true (function_bounded f) _ h))
-    (have_results fs (right_true (function_bounded f) _ h))
+    and_from (is_some_list f.results) _ (and_left (is_some_list f.results) _ (and_left (function_bounded f) _ h))
+    (have_results fs (and_right (function_bounded f) _ h))
 
 pub accepted_names_are_new : (p : Program) → IsTrue (program_bounded p) → first_refusal (demands p) ≡ None → IsTrue (names_are_new p)
 unfolding program_bounded
@@ -165,4 +156,4 @@ accepted_names_are_new p bounded h =
     let a = is_some_list p.functions in
     let b = list_all (λ (c : Constant). is_bounded c.value) p.constants in
     let c = list_all (λ (r : Range). is_bounded r.low && is_bounded r.high) p.ranges in
-    names_new p (have_results p.functions (right_true c _ (right_true b _ (right_true a _ bounded)))) h
+    names_new p (have_results p.functions (and_right c _ (and_right b _ (and_right a _ bounded)))) h

@@ -1,6 +1,5 @@
 -- The passes over a source, one step at a time.
 use Rattle.std.proofs.Common.{◌≡◌, ℕ, suc, ◌+◌, zero, ◌<◌, ◌-◌, ◌==◌, slice_get, Bool, true, false, List, [], ◌∷◌, ◌++◌, map, length, get_or, drop, drop-cons, refl, sym, ◌∙◌, ap, subst, append_assoc, add-one, arith, OnOk, Option, Some, None, Result, Ok, Err}
-use Rattle.std.specs.Option.{is_some, is_none}
 use Rattle.std.specs.Result.{IsErrAnd, IfErr}
 use Rattle.std.proofs.lemmas.Bool.{eqb-true, eqb-false}
 use Rattle.std.proofs.lemmas.List.{drop_all}
@@ -12,7 +11,6 @@ use Rattle.df_syntax.specs.declared.program.Range.{Range}
 use Rattle.df_syntax.specs.declared.program.Function.{Function}
 use Rattle.df_syntax.specs.declared.program.Program.{Program}
 use Rattle.df_types.specs.declared.answers.CheckAnswer.{CheckAnswer}
-use Rattle.df_types.specs.declared.entry.Entry.{Entry}
 use Rattle.df_types.specs.declared.entry.Entry.TheVariants as entry
 use Rattle.df_types.specs.Scopes.{Scope, Names, Binding, bound, unbound}
 use Rattle.df_names.specs.Found.{names_of}
@@ -69,11 +67,6 @@ pub left_step : (rs : List Range) (i : ℕ) (r : Range) (without : Names) → i 
     → left_without (drop i rs) without ≡ left_without (drop (i + 1) rs) (unbind without r.name.name)
 left_step rs i r without below is =
     subst (λ (y : Range). left_without (drop i rs) without ≡ left_without (drop (i + 1) rs) (unbind without y.name.name)) (sym is) (rw (add-one i, drop-cons rs i r) refl)
-
--- what is not nothing is something
-pub is_there : (o : Option Entry) → is_none o ≡ false → is_some o ≡ true
-is_there None h = cc
-is_there (Some e) h = refl
 
 -- ---- functions
 
