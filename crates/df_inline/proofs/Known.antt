@@ -1,43 +1,16 @@
--- What a table knows of functions, from one more to the next, and of fewer.
+-- What a table knows of functions, from one more to the next.
 use Rattle.std.proofs.Common.{◌≡◌, ℕ, zero, suc, ◌+◌, ◌<◌, ◌≤◌, Bool, true, false, if◌then◌else◌, List, [], ◌∷◌, take, length, get_or, reverse, ◌-◌, subst, refl, sym, ◌∙◌, ap, arith, Option, Some, None, bytes_eq}
 use borrow.Author.Count.{below_more}
 use Rattle.std.proofs.lemmas.List.{get_or-take, get_or_default, length-take-le}
 use Rattle.df_syntax.specs.declared.program.Function.{Function}
 use Rattle.df_syntax.specs.Meaning.{Name}
-use Rattle.df_inline.specs.declared.table.Table.{Table}
 use Rattle.df_inline.specs.Bodies.{Finds}
-use Rattle.df_inline.specs.Tables.{entry_size, entry_place, place_in, NoneFrom, IsLastAt, IsLast, HasAll, IsKnown, Knows}
+use Rattle.df_inline.specs.Tables.{entry_size, entry_place, NoneFrom, IsLastAt, IsLast}
 use Rattle.df_inline.specs.declared.size.Size.{Size}
 use Rattle.df_inline.specs.declared.table.Entry.{Entry}
 use Rattle.df_inline.specs.Counts.{saturated}
 use Rattle.df_inline.specs.Sizes.{expr_size, only_size, call_size}
 use Rattle.df_inline.proofs.Latest.{Among, hit, missed, among_all, grown}
-
--- ---- fewer functions
-
-none_of_fewer : (fs : List Function) (n start : ℕ) (name : Name) → n ≤ length fs → NoneFrom fs start name → NoneFrom (take n fs) start name
-none_of_fewer fs n start name le none i f above below is =
-    let size = length-take-le n fs le in
-    let less : i < n = omega (arith, size, below) in
-    none i f above (omega (arith, less, le)) (is ∙ get_or-take n fs i f less)
-
-known_of_fewer : (fs : List Function) (n : ℕ) (name : Name) (o : Option ℕ) → n ≤ length fs → IsKnown fs name o → IsKnown (take n fs) name o
-known_of_fewer fs n name None le h = none_of_fewer fs n 0 name le h
-known_of_fewer fs n name (Some place) le h = λ below.
-    let size = length-take-le n fs le in
-    let less : place < n = omega (arith, size, below) in
-    let l = h (omega (arith, less, le)) in
-    record { function = l.function; at = l.at ∙ sym (get_or-take n fs place l.function less); named = l.named; last = none_of_fewer fs n (place + 1) name le l.last }
-
-pub knows_fewer : (fs : List Function) (n : ℕ) (table : Table) → n ≤ length fs → Knows fs table → Knows (take n fs) table
-knows_fewer fs n table le h = λ name. known_of_fewer fs n name (place_in table name) le (h name)
-
-last_known : (fs : List Function) (name : Name) (o : Option ℕ) → IsLast fs name o → IsKnown fs name o
-last_known fs name None h = h
-last_known fs name (Some place) h = λ below. h.1
-
-pub has_knows : (fs : List Function) (table : Table) → HasAll fs table → Knows fs table
-has_knows fs table h = λ name. last_known fs name (place_in table name) (h name)
 
 -- ---- the last function of a name
 

@@ -7,7 +7,7 @@ use Rattle.df_syntax.specs.declared.program.Function.{Function}
 use Rattle.df_syntax.specs.Meaning.{Name}
 use Rattle.df_inline.specs.Inlined.{expr_inlined, only_body, replacement}
 use Rattle.df_inline.specs.Bodies.{IsBodyAt, Finds}
-use Rattle.df_inline.proofs.Pushed.{taken}
+use Rattle.df_syntax.proofs.Pushed.{taken}
 
 -- among the first n functions
 abbrev pub Among : List Function → ℕ → Name → Option ℕ → Type 0

@@ -1,7 +1,6 @@
 pub mod Kept
 pub mod Programs
 pub mod Forms
-pub mod Pushed
 pub mod Saturated
 pub mod SizeForms
 pub mod TableReads

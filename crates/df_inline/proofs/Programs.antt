@@ -11,6 +11,7 @@ use Rattle.df_syntax.specs.declared.piped.Body.{Body}
 use Rattle.df_syntax.specs.declared.piped.Body.TheVariants as body
 use Rattle.df_syntax.specs.declared.piped.Block.{Block}
 use Rattle.df_syntax.specs.declared.piped.Piped.{Piped}
+use Rattle.df_syntax.specs.Trees.{map_same}
 use Rattle.df_syntax.specs.Meaning.{Name, value_of, calls, only_value, parameters_bound}
 use Rattle.df_syntax.specs.BlockMeaning.{indices, value_at, members_over, folded, before, recurred, made, bind_some, blocks_made, inputs_bound, result_of, mean, flat_mean}
 use Rattle.df_inline.specs.declared.replacement.Replacement.{Replacement}
@@ -43,14 +44,10 @@ calls_kept (f ∷ functions) name vs =
 
 -- ---- blocks
 
-map_alike : {A B : Type 0} (f g : A → B) → ((x : A) → f x ≡ g x) → (l : List A) → map f l ≡ map g l
-map_alike f g h [] = refl
-map_alike f g h (x ∷ l) = ap (λ y. y ∷ map f l) (h x) ∙ ap (λ ys. g x ∷ ys) (map_alike f g h l)
-
 members_kept : (functions : List Function) (names : List (Name × Bound)) (index : Name) (elem : Expr) (lo : ℤ) (n : ℕ)
     → members_over (flat names) index (expr_inlined (replacement functions) elem) lo n ≡ members_over (full (calls functions) names) index elem lo n
 members_kept functions names index elem lo n =
-    map_alike _ _ (λ i. value_kept (replacement functions) (calls functions) (calls_kept functions) elem (names ++ (index, Scalar (Some (Int i))) ∷ [])) (indices lo n)
+    map_same _ _ _ _ (λ i. value_kept (replacement functions) (calls functions) (calls_kept functions) elem (names ++ (index, Scalar (Some (Int i))) ∷ [])) (indices lo n)
 
 recurred_kept : (functions : List Function) (names : List (Name × Bound)) (index array : Name) (lo : ℤ) (first elem : Expr) (n : ℕ)
     → recurred (flat names) index array lo (expr_inlined (replacement functions) first) (expr_inlined (replacement functions) elem) n ≡ recurred (full (calls functions) names) index array lo first elem n

@@ -4,7 +4,7 @@ use Rattle.df_inline.specs.declared.size.Size.{Size}
 use Rattle.df_inline.specs.Sizes.{nothing, both, one_more, inside, beside}
 use Rattle.df_inline.specs.Counts.{saturated}
 use Rattle.std.proofs.lemmas.List.{map-append}
-use Rattle.df_inline.proofs.Pushed.{taken}
+use Rattle.df_syntax.proofs.Pushed.{taken}
 
 same : (a b c d : ℕ) → a ≡ c → b ≡ d → Path Size (record { nodes = a; brackets = b }) (record { nodes = c; brackets = d })
 same a b c d p q = ap (λ x. record { nodes = x; brackets = b }) p ∙ ap (λ y. record { nodes = c; brackets = y }) q
