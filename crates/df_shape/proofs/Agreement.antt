@@ -1,6 +1,6 @@
 -- What names stand for in a source and in its blocks.
-use Rattle.std.proofs.Common.{◌≡◌, ◌≢◌, ℤ, Bool, true, false, if◌then◌else◌, ◌&&◌, ◌||◌, List, [], ◌∷◌, ◌++◌, fold, refl, sym, ◌∙◌, ap, subst, Option, Some, None, bytes_eq}
-use Rattle.std.specs.Prelude.{not}
+use Rattle.std.proofs.Common.{◌≡◌, Bool, true, false, if◌then◌else◌, List, [], ◌∷◌, ◌++◌, refl, sym, ◌∙◌, ap, Option, Some, None, bytes_eq}
+use Rattle.std.proofs.lemmas.Bool.{or_right}
 use Rattle.std.proofs.lemmas.List.Sums.{fold-append}
 use Rattle.std.proofs.lemmas.Slice.Eq.{bytes_eq-Decides}
 use Rattle.df_values.specs.declared.values.Value.TheVariants.{Int}
@@ -12,24 +12,6 @@ use Rattle.df_syntax.specs.FreshNames.{Taken, also}
 use Rattle.df_shape.specs.declared.standing.Standing.{Standing}
 use Rattle.df_shape.specs.declared.standing.Standing.TheVariants as standing
 use Rattle.df_shape.specs.Renamed.{Names}
-
--- ---- tests
-
-pub and_left : (a b : Bool) → (a && b) ≡ true → a ≡ true
-and_left true b h = refl
-and_left false b h = h
-
-pub and_right : (a b : Bool) → (a && b) ≡ true → b ≡ true
-and_right true b h = h
-and_right false b h = cc
-
-pub or_true : (a b : Bool) → b ≡ true → (a || b) ≡ true
-or_true true b h = refl
-or_true false b h = h
-
-pub not_true : (b : Bool) → not b ≡ true → b ≡ false
-not_true true h = sym h
-not_true false h = refl
 
 -- ---- one name more
 
@@ -89,7 +71,7 @@ agrees_after names taken source blocks x b agree new name None is a =
 
 pub also_taken : (taken : Taken) (x name : Name) → taken name ≡ true → (also taken x) name ≡ true
 unfolding also
-also_taken taken x name h = or_true (bytes_eq x name) (taken name) h
+also_taken taken x name h = or_right (bytes_eq x name) (taken name) h
 
 pub agree_after : (names : Names) (taken : Taken) (source blocks : Bounds) (x : Name) (b : Bound) → Agree names taken source blocks → taken x ≡ false
     → Agree names (also taken x) (source ++ (x, b) ∷ []) (blocks ++ (x, b) ∷ [])

@@ -1,14 +1,12 @@
 -- What makes a definition or a result makes in blocks what it stands for in the source.
-use Rattle.std.proofs.Common.{◌≡◌, ℕ, zero, suc, ℤ, pos, ◌+ℤ◌, Bool, true, false, if◌then◌else◌, ◌&&◌, ◌||◌, List, [], ◌∷◌, ◌++◌, map, refl, sym, ◌∙◌, ap, subst, Option, Some, None, bytes_eq}
+use Rattle.std.proofs.Common.{◌≡◌, ℕ, zero, suc, ℤ, pos, ◌+ℤ◌, Bool, true, false, ◌||◌, List, [], ◌∷◌, ◌++◌, refl, sym, ◌∙◌, ap, Option, Some, None, bytes_eq}
 use Rattle.std.specs.Prelude.{not}
 use Rattle.std.proofs.lemmas.Slice.Eq.{bytes_eq-Decides}
 use Rattle.df_values.specs.declared.values.Value.{Value}
 use Rattle.df_values.specs.declared.values.Value.TheVariants.{Int}
 use Rattle.df_values.specs.declared.values.Basic.{Basic}
-use Rattle.df_values.specs.declared.kinds.Op.{Op}
 use Rattle.df_syntax.specs.declared.bound.Bound.{Bound}
 use Rattle.df_syntax.specs.declared.bound.Bound.TheVariants.{Scalar, Array}
-use Rattle.df_syntax.specs.declared.tree.Named.{Named}
 use Rattle.df_syntax.specs.declared.tree.Sort.{Sort}
 use Rattle.df_syntax.specs.declared.tree.Sort.TheVariants as of
 use Rattle.df_syntax.specs.declared.tree.Expr.{Expr}
@@ -20,7 +18,7 @@ use Rattle.df_syntax.proofs.Senses.{named, parens}
 use Rattle.df_syntax.specs.declared.piped.Body.TheVariants as body
 use Rattle.df_syntax.specs.declared.piped.Outcome.{Outcome}
 use Rattle.df_syntax.specs.Trees.{Opened, layer_of, map_same}
-use Rattle.df_syntax.specs.Meaning.{Name, Env, value_of, scalar, bound_at, ordinary}
+use Rattle.df_syntax.specs.Meaning.{Name, Env, value_of, scalar, bound_at}
 use Rattle.df_syntax.specs.BlockMeaning.{indices, value_at, members_over, folded, before, recurred}
 use Rattle.df_syntax.specs.BlockMeaning as blocks_of
 use Rattle.df_syntax.specs.FreshNames.{Taken, Fresh, also, is_fresh, node_fresh}
@@ -29,8 +27,10 @@ use Rattle.df_syntax.specs.SourceMeaning.{over, number_of, name_bound, recurrenc
 use Rattle.df_shape.specs.declared.standing.Standing.{Standing}
 use Rattle.df_shape.specs.declared.standing.Standing.TheVariants as standing
 use Rattle.df_shape.specs.Renamed.{Names, renamed}
-use Rattle.df_shape.specs.Shaped.{between, recurrence_body, array_body, scalar_body, body_of, name_standing}
-use Rattle.df_shape.proofs.Agreement.{Bounds, Agree, agree_after, also_taken, and_left, and_right, not_true, not_both}
+use Rattle.df_shape.specs.Shaped.{recurrence_body, array_body, scalar_body, body_of, name_standing}
+use Rattle.std.proofs.lemmas.Bool.{not-true, or_parts}
+use Rattle.df_syntax.proofs.Tests.{and_left, and_right}
+use Rattle.df_shape.proofs.Agreement.{Bounds, Agree, agree_after, also_taken, not_both}
 use Rattle.df_shape.proofs.Kept.{Calls, with_calls, expression_kept}
 use Rattle.df_shape.proofs.CallsKept.{more_taken}
 use Rattle.df_shape.proofs.ManifestMeaning.{manifest_means}
@@ -89,13 +89,9 @@ module _ (numbers : Numbers) (of_source of_blocks : Calls) (same_calls : (name :
   -- ---- recurrences
 
   module _ (r : Recurrence) (fresh : RecurrenceFresh r taken) where
-    or_false : (a b : Bool) → (a || b) ≡ false → (a ≡ false) × (b ≡ false)
-    or_false true b h = (h, cc)
-    or_false false b h = (refl, h)
-
     array_new : taken r.array ≡ false
     unfolding also
-    array_new = (or_false (bytes_eq r.index r.array) (taken r.array) fresh.array_new).1
+    array_new = (or_parts (bytes_eq r.index r.array) (taken r.array) fresh.array_new).1
 
     apart : bytes_eq r.array r.index ≡ false
     unfolding also
@@ -104,7 +100,7 @@ module _ (numbers : Numbers) (of_source of_blocks : Calls) (same_calls : (name :
         by : (b : Bool) → bytes_eq r.array r.index ≡ b → bytes_eq r.array r.index ≡ false
         by true is =
             let same = (bytes_eq-Decides r.array r.index).0 is in
-            not_both (bytes_eq r.index r.array) (ap (λ n. bytes_eq n r.array) (sym same) ∙ (ap (bytes_eq r.array) same ∙ is)) (or_false (bytes_eq r.index r.array) (taken r.array) fresh.array_new).0
+            not_both (bytes_eq r.index r.array) (ap (λ n. bytes_eq n r.array) (sym same) ∙ (ap (bytes_eq r.array) same ∙ is)) (or_parts (bytes_eq r.index r.array) (taken r.array) fresh.array_new).0
         by false is = is
 
     index_new : also taken r.array r.index ≡ false
@@ -163,7 +159,7 @@ module _ (numbers : Numbers) (of_source of_blocks : Calls) (same_calls : (name :
       let inner = and_right (is_fresh high taken) _ (and_right (is_fresh low taken) _ parts) in
       over_kept low high low_known high_known (body.Scalar (renamed names e)) (λ lo n. body.Fold index.name o lo n (renamed names elem)) (Scalar None)
       (λ lo n. Scalar (folded o (members_over in_source index.name elem lo n))) (λ b. blocks_of.made in_blocks b)
-      (λ lo n. ap (λ ms. Scalar (folded o ms)) (members_kept index.name elem lo n (not_true (taken index.name) (and_left _ _ inner)) (and_right (not (taken index.name)) _ inner)))
+      (λ lo n. ap (λ ms. Scalar (folded o ms)) (members_kept index.name elem lo n (not-true (taken index.name) (and_left _ _ inner)) (and_right (not (taken index.name)) _ inner)))
       ∙ over_outside (number_of in_source low) (number_of in_source high) None (λ lo n. folded o (members_over in_source index.name elem lo n)) (λ v. Scalar v)
   scalar_side e x fresh parts known = scalar_kept e fresh
 
@@ -191,7 +187,7 @@ module _ (numbers : Numbers) (of_source of_blocks : Calls) (same_calls : (name :
       let inner = and_right (is_fresh high taken) _ (and_right (is_fresh low taken) _ parts) in
       over_kept low high low_known high_known (body.Scalar (renamed names e)) (λ lo n. body.Construct index.name lo n (renamed names elem)) (Scalar None)
       (λ lo n. Array lo (members_over in_source index.name elem lo n)) (λ b. blocks_of.made in_blocks b)
-      (λ lo n. ap (λ ms. Array lo ms) (members_kept index.name elem lo n (not_true (taken index.name) (and_left _ _ inner)) (and_right (not (taken index.name)) _ inner)))
+      (λ lo n. ap (λ ms. Array lo ms) (members_kept index.name elem lo n (not-true (taken index.name) (and_left _ _ inner)) (and_right (not (taken index.name)) _ inner)))
   array_side e (Node-F.Name name) at fresh parts known plain =
       scalar_kept e fresh ∙ (ap (λ v. Scalar v) (name_value e name in_source at) ∙ name_side e name (names name) (are.known name) plain)
   array_side e (Node-F.For ds asked assigns last) at fresh parts known plain =

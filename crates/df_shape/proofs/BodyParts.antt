@@ -1,5 +1,5 @@
 -- What is demanded of a body, by its node.
-use Rattle.std.proofs.Common.{◌≡◌, ℕ, suc, ◌+◌, ◌<◌, refl, sym, ◌∙◌, ap, subst, Bool, true, false, ◌&&◌, ◌||◌, if◌then◌else◌, bytes_eq, List, [], ◌∷◌, ◌++◌, length, get_or, drop, drop-cons, add-one, arith, Some, None}
+use Rattle.std.proofs.Common.{◌≡◌, ℕ, suc, ◌+◌, ◌<◌, refl, sym, ◌∙◌, ap, subst, Bool, true, false, ◌&&◌, ◌||◌, if◌then◌else◌, bytes_eq, List, [], ◌∷◌, ◌++◌, length, get_or, drop, drop-cons, add-one, Some, None}
 use Rattle.std.specs.Prelude.{flat_map}
 use Rattle.std.specs.Option.{is_some}
 use Rattle.df_syntax.specs.declared.tree.Expr.{Expr}
@@ -57,11 +57,6 @@ module _ (around : Around) (e : Expr) where
       ∙ other_at (out-Node e.node) (λ of is. p of (is_parens e.node of is)) (λ ds values is. l ds values (is_let_node e.node ds values is))
 
 -- ---- results
-
-pub one_result : (around : Around) (es : List Expr) (e : Expr) → length es ≡ 1 → e ≡ get_or es 0 e → body_demands (bodies es) around ≡ body_of e around
-one_result around [] e one is = absurd (omega (arith, one))
-one_result around (d ∷ []) e one is = ap (λ (c : Expr). body_of c around) (sym is)
-one_result around (d ∷ c ∷ es) e one is = absurd (omega (arith, one))
 
 wholes : (around : Around) (es : List Expr) → flat_map (λ (p : Expr × Look). demands_of p.0 (whole around)) (bodies es) ≡ flat_map (λ (e : Expr). demands_of e (whole around)) es
 wholes around [] = refl

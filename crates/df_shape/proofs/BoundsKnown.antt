@@ -1,5 +1,5 @@
 -- The bounds of a block are manifest, where the demands on it hold.
-use Rattle.std.proofs.Common.{◌≡◌, ℤ, List, [], ◌++◌, map, refl, sym, ◌∙◌, ap, subst, Option, Some, None}
+use Rattle.std.proofs.Common.{◌≡◌, ℤ, ◌++◌, map, sym, ◌∙◌, ap, subst, Some, None}
 use Rattle.df_syntax.specs.declared.tree.Expr.{Expr}
 use Rattle.df_syntax.specs.declared.tree.Node.{out-Node, roll-Node}
 use Rattle.df_syntax.specs.declared.tree.Node.TheOpen.{Node-F}
@@ -9,12 +9,11 @@ use Rattle.df_syntax.specs.TreeInduction.{Proved, without, tree_induction}
 use Rattle.df_syntax.specs.Besides.{layer_map, beside_rolled}
 use Rattle.df_syntax.specs.Demands.{first_refusal}
 use Rattle.df_syntax.proofs.FirstRefusals.{begin_holds, rest_holds}
-use Rattle.df_syntax.specs.SourceForms.{Numbers, bare, form, manifest, Recurrence, recurrence_of}
+use Rattle.df_syntax.specs.SourceForms.{Numbers, form, manifest, Recurrence, recurrence_of}
 use Rattle.std.specs.Prelude.{suc, nat_le}
 use Rattle.df_syntax.specs.WellShaped.{has_first}
 use Rattle.df_shape.specs.declared.answers.ShapeAnswer.TheVariants.{RangeTooLong, EmptyReduce, NotPiped}
 use Rattle.df_syntax.specs.declared.form.Form.TheVariants as rule
-use Rattle.df_shape.specs.Demands as demanded
 use Rattle.df_shape.specs.Demands.{Demands, Around, Look, demand, own_demands, inner_demands, look_node, demands_of, call_rule, block_rule, conditional_rule, defined_rule, array_rule, range_rule, subscript_rule, manifest_demand, length_between, longest, range_demands, recurrence_demands, is_one_before}
 use Rattle.df_shape.proofs.Opened.{opened}
 use Rattle.df_shape.proofs.Opened as node
@@ -30,7 +29,7 @@ pub form_parens : (e of : Expr) → e.node ≡ roll-Node (Node-F.Parens of) → 
 form_parens e of is = ap (λ (d : Expr). out-Node d.node) (bare_of.parens e of (is ∙ n.rolls-Parens of))
 
 -- the rule on ranges among the rules on one node
-range_held : (around : Around) (e : Expr) (x : Layer Expr) → first_refusal (own_demands around e x) ≡ None → first_refusal (range_rule around e x) ≡ None
+pub range_held : (around : Around) (e : Expr) (x : Layer Expr) → first_refusal (own_demands around e x) ≡ None → first_refusal (range_rule around e x) ≡ None
 range_held around e x h =
     begin_holds (range_rule around e x) (subscript_rule around e.place x)
     (rest_holds (array_rule around.part e.place x) _
@@ -107,23 +106,7 @@ module _ (numbers : Numbers) where
         (loop_known e (Node-F.For (map (λ d. d.0) ds) asked.0 (map (λ a. a.0) assigns) last.0)
         (form_plain e (Node-F.For (map (λ d. d.0) ds) asked.0 (map (λ a. a.0) assigns) last.0) is (λ of q. cc))
         (own_held e (Node-F.For (map (λ d. d.0) ds) asked.0 (map (λ a. a.0) assigns) last.0) is h))
-    step e (Node-F.Number v) is h = by_form e (Node-F.Number v) is (λ of q. cc) tt
-    step e (Node-F.Truth v) is h = by_form e (Node-F.Truth v) is (λ of q. cc) tt
-    step e (Node-F.Error v b) is h = by_form e (Node-F.Error v b) is (λ of q. cc) tt
-    step e (Node-F.Name name) is h = by_form e (Node-F.Name name) is (λ of q. cc) tt
-    step e (Node-F.Access name at) is h = by_form e (Node-F.Access name at.0) is (λ of q. cc) tt
-    step e (Node-F.Call name arguments) is h = by_form e (Node-F.Call name (map (λ a. a.0) arguments)) is (λ of q. cc) tt
-    step e (Node-F.Chain first rest) is h = by_form e (Node-F.Chain first.0 (map (λ l. l.0) rest)) is (λ of q. cc) tt
-    step e (Node-F.Compare rel left right) is h = by_form e (Node-F.Compare rel left.0 right.0) is (λ of q. cc) tt
-    step e (Node-F.Negate of) is h = by_form e (Node-F.Negate of.0) is (λ d q. cc) tt
-    step e (Node-F.Invert of) is h = by_form e (Node-F.Invert of.0) is (λ d q. cc) tt
-    step e (Node-F.Test test of) is h = by_form e (Node-F.Test test of.0) is (λ d q. cc) tt
-    step e (Node-F.TwoPlace o left right) is h = by_form e (Node-F.TwoPlace o left.0 right.0) is (λ of q. cc) tt
-    step e (Node-F.If arms last) is h = by_form e (Node-F.If (map (λ a. a.0) arms) last.0) is (λ of q. cc) tt
-    step e (Node-F.Let ds es) is h = by_form e (Node-F.Let (map (λ d. d.0) ds) (map (λ x. x.0) es)) is (λ of q. cc) tt
-    step e (Node-F.Array at value) is h = by_form e (Node-F.Array at.0 value.0) is (λ of q. cc) tt
-    step e (Node-F.Update name at value) is h = by_form e (Node-F.Update name at.0 value.0) is (λ of q. cc) tt
-    step e (Node-F.Replaced parameters arguments body) is h = by_form e (Node-F.Replaced parameters (map (λ a. a.0) arguments) body.0) is (λ of q. cc) tt
+    step e y is h = by_form e (without Held y) is (λ of q. cc) tt
 
     pub bounds_known : (e : Expr) → first_refusal (demands_of e around) ≡ None → BoundsKnown (form e)
     bounds_known = tree_induction Held step

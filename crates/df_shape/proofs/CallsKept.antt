@@ -1,6 +1,6 @@
 -- Constants stand for their numbers, and calls give the same where a number stands in place of each constant.
-use Rattle.std.proofs.Common.{◌≡◌, ℤ, Bool, true, false, if◌then◌else◌, ◌&&◌, ◌||◌, List, [], ◌∷◌, ◌++◌, append-nil, append_assoc, map, fold, refl, sym, ◌∙◌, ap, subst, Option, Some, None, bytes_eq, ◌⊎◌, inl, inr}
-use Rattle.std.specs.List.{list_all, list_any, zip}
+use Rattle.std.proofs.Common.{◌≡◌, ℤ, Bool, true, false, if◌then◌else◌, ◌||◌, List, [], ◌∷◌, ◌++◌, append-nil, append_assoc, map, fold, refl, sym, ◌∙◌, ap, subst, Option, Some, None, bytes_eq, ◌⊎◌, inl, inr}
+use Rattle.std.specs.List.{list_all, list_any}
 use Rattle.std.specs.Option.{is_some}
 use Rattle.std.specs.Prelude.{not}
 use Rattle.df_values.specs.declared.values.Value.{Value}
@@ -11,14 +11,13 @@ use Rattle.df_syntax.specs.declared.tree.Expr.{Expr}
 use Rattle.df_syntax.specs.declared.tree.Parameter.{Parameter}
 use Rattle.df_syntax.specs.declared.program.Constant.{Constant}
 use Rattle.df_syntax.specs.declared.program.Function.{Function}
-use Rattle.df_syntax.specs.declared.program.Program.{Program}
 use Rattle.df_syntax.specs.declared.piped.Outcome.{Outcome}
 use Rattle.df_syntax.specs.Demands.{first_refusal}
 use Rattle.df_syntax.proofs.FirstRefusals.{head_holds, tail_holds}
 use Rattle.df_syntax.specs.Meaning.{Name, value_of, ordinary, scalar, bound_at, calls, only_value, parameters_bound}
-use Rattle.df_syntax.specs.FreshNames.{Taken, also, is_fresh, parameters_fresh, with_parameters, function_fresh, declared_names}
-use Rattle.df_syntax.specs.SourceForms.{Constants, Numbers, only, number_value, manifest, with_number, with_constant, numbers_of, constants_of}
-use Rattle.df_syntax.specs.SourceMeaning.{number_of, source_calls}
+use Rattle.df_syntax.specs.FreshNames.{Taken, also, is_fresh, parameters_fresh, with_parameters, function_fresh}
+use Rattle.df_syntax.specs.SourceForms.{Constants, Numbers, only, number_value, manifest, with_number, with_constant}
+use Rattle.df_syntax.specs.SourceMeaning.{source_calls}
 use Rattle.df_shape.specs.declared.standing.Standing.{Standing}
 use Rattle.df_shape.specs.declared.standing.Standing.TheVariants as standing
 use Rattle.df_shape.specs.Renamed.{Names, renamed, function_renamed}
@@ -27,8 +26,10 @@ use Rattle.df_shape.specs.declared.answers.ShapeAnswer.{ShapeAnswer}
 use Rattle.df_shape.specs.declared.answers.ShapeAnswer.TheVariants.{NotManifest}
 use Rattle.df_shape.specs.Demands.{Demands, demand, manifest_demand}
 use Rattle.df_shape.specs.Sources.{constants_demands}
-use Rattle.df_shape.proofs.Agreement.{Bounds, Agree, AgreesBy, agree_after, bound_after, also_taken, and_left, and_right, or_true, not_true}
-use Rattle.df_shape.proofs.Kept.{Calls, with_calls, expression_kept}
+use Rattle.std.proofs.lemmas.Bool.{not-true, or_right}
+use Rattle.df_syntax.proofs.Tests.{and_left, and_right}
+use Rattle.df_shape.proofs.Agreement.{Bounds, Agree, AgreesBy, agree_after, bound_after, also_taken}
+use Rattle.df_shape.proofs.Kept.{with_calls, expression_kept}
 use Rattle.df_shape.proofs.ManifestMeaning.{HaveNumbers, manifest_means}
 
 -- ---- numbers
@@ -96,7 +97,7 @@ numbers_among (c ∷ cs) numbers name k is = by (numbers_among cs (with_number n
   where
     by : (list_any (λ (d : Constant). bytes_eq d.name.name name) cs ≡ true) ⊎ (with_number numbers c name ≡ Some k) → (b : Bool) → bytes_eq c.name.name name ≡ b
         → ((bytes_eq c.name.name name || list_any (λ (d : Constant). bytes_eq d.name.name name) cs) ≡ true) ⊎ (numbers name ≡ Some k)
-    by (inl later) b at = inl (or_true (bytes_eq c.name.name name) _ later)
+    by (inl later) b at = inl (or_right (bytes_eq c.name.name name) _ later)
     by (inr here) true at = inl (ap (λ t. t || list_any (λ (d : Constant). bytes_eq d.name.name name) cs) at)
     by (inr here) false at = inr (sym (ap (λ t. if t then manifest numbers c.value else numbers name) at) ∙ here)
 
@@ -143,7 +144,7 @@ parameters_agree names (p ∷ ps) [] taken source blocks agree fresh =
     more_taken names taken (with_parameters (p ∷ ps) taken) _ _
     (subst (λ s. Agree names taken s (blocks ++ [])) (sym (append-nil source)) (subst (λ b. Agree names taken source b) (sym (append-nil blocks)) agree)) (parameters_taken (p ∷ ps) taken)
 parameters_agree names (p ∷ ps) (v ∷ vs) taken source blocks agree fresh =
-    let new : taken p.name.name ≡ false = not_true (taken p.name.name) (and_left _ _ fresh) in
+    let new : taken p.name.name ≡ false = not-true (taken p.name.name) (and_left _ _ fresh) in
     let rest = parameters_agree names ps vs (also taken p.name.name) (source ++ (p.name.name, Scalar v) ∷ []) (blocks ++ (p.name.name, Scalar v) ∷ [])
     (agree_after names taken source blocks p.name.name (Scalar v) agree new) (and_right (not (taken p.name.name)) _ fresh) in
     subst (λ s. Agree names (with_parameters (p ∷ ps) taken) s (blocks ++ parameters_bound (p ∷ ps) (v ∷ vs))) (append_assoc source ((p.name.name, Scalar v) ∷ []) (parameters_bound ps vs))

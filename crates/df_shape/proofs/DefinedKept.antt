@@ -1,12 +1,11 @@
 -- A definition and a result stand for the same in a source and in its blocks.
-use Rattle.std.proofs.Common.{◌≡◌, ℕ, ℤ, suc, ◌+◌, Bool, true, false, if◌then◌else◌, ◌||◌, List, [], ◌∷◌, ◌++◌, append_assoc, append-nil, length, map, refl, sym, ◌∙◌, ap, subst, Option, Some, None, bytes_eq}
+use Rattle.std.proofs.Common.{◌≡◌, ℤ, ◌+◌, true, false, List, [], ◌∷◌, ◌++◌, append_assoc, append-nil, length, map, refl, sym, ◌∙◌, ap, subst, Option, Some, None, bytes_eq}
 use Rattle.std.specs.Prelude.{slice_index_or}
 use Rattle.std.proofs.lemmas.List.{length-append}
 use Rattle.std.proofs.lemmas.Slice.Eq.{bytes_eq-Decides}
 use Rattle.df_values.specs.declared.values.Value.{Value}
 use Rattle.df_values.specs.declared.values.Basic.{Basic}
 use Rattle.df_syntax.specs.declared.bound.Bound.{Bound}
-use Rattle.df_syntax.specs.declared.bound.Bound.TheVariants.{Scalar, Array}
 use Rattle.df_syntax.specs.declared.tree.Named.{Named}
 use Rattle.df_syntax.specs.declared.tree.Sort.{Sort}
 use Rattle.df_syntax.specs.declared.tree.Sort.TheVariants as of
@@ -17,7 +16,7 @@ use Rattle.df_syntax.specs.declared.piped.Block.{Block}
 use Rattle.df_syntax.specs.declared.piped.Outcome.{Outcome}
 use Rattle.df_syntax.specs.declared.piped.Outcome.TheVariants as outcome
 use Rattle.df_syntax.specs.Trees.{Opened}
-use Rattle.df_syntax.specs.Meaning.{Name, scalar, bound_at}
+use Rattle.df_syntax.specs.Meaning.{Name, scalar}
 use Rattle.df_syntax.specs.BlockMeaning.{blocks_made, result_of, values_of, cut}
 use Rattle.df_syntax.specs.BlockMeaning as blocks_of
 use Rattle.df_syntax.specs.FreshNames.{Taken, also, is_fresh}
@@ -28,9 +27,9 @@ use Rattle.df_shape.specs.declared.standing.Standing.{Standing}
 use Rattle.df_shape.specs.declared.standing.Standing.TheVariants as standing
 use Rattle.df_shape.specs.Renamed.{Names}
 use Rattle.df_shape.specs.Shaped.{Made, standing_by, body_of, name_standing, define_by, result_by}
-use Rattle.df_shape.proofs.Agreement.{Bounds, itself_after, also_taken, not_both}
+use Rattle.df_shape.proofs.Agreement.{Bounds, itself_after, also_taken}
 use Rattle.df_shape.proofs.Kept.{Calls, with_calls}
-use Rattle.df_shape.proofs.MainNames.{AreKnown, HaveMade, IsScalar, IsArray, Known, known_after, known_alias, also_itself}
+use Rattle.df_shape.proofs.MainNames.{AreKnown, HaveMade, Known, known_after, known_alias, also_itself}
 use Rattle.df_shape.proofs.BoundsKnown.{BoundsKnown}
 use Rattle.df_shape.proofs.BodyKept.{side_kept, name_value}
 

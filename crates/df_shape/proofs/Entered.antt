@@ -19,20 +19,17 @@ use Rattle.df_names.specs.Maps.{bind}
 use Rattle.df_shape.specs.declared.standing.Standing.{Standing}
 use Rattle.df_shape.specs.Shaped.{constant_standing, constant_names}
 use Rattle.df_shape.specs.Entries.{numbers_by, standing_in, extents_found, or_empty, input_found}
-use Rattle.df_shape.proofs.Pushed.{taken}
+use Rattle.df_syntax.proofs.Pushed.{taken}
+use Rattle.std.proofs.lemmas.Bool.{or_parts}
 
 -- ---- constants
-
-or_false : (a b : Bool) → (a || b) ≡ false → (a ≡ false) × (b ≡ false)
-or_false true b h = absurd (cc)
-or_false false b h = (refl, h)
 
 -- a name that is no constant's has no number
 unnamed : (cs : List Constant) (start : Numbers) (name : Name) → list_any (λ (c : Constant). bytes_eq c.name.name name) cs ≡ false
     → fold with_number start cs name ≡ start name
 unnamed [] start name h = refl
 unnamed (c ∷ cs) start name h =
-    let parts = or_false (bytes_eq c.name.name name) (list_any (λ (c : Constant). bytes_eq c.name.name name) cs) h in
+    let parts = or_parts (bytes_eq c.name.name name) (list_any (λ (c : Constant). bytes_eq c.name.name name) cs) h in
     unnamed cs (with_number start c) name parts.1 ∙ ap (λ b. if b then manifest start c.value else start name) parts.0
 
 all_by : (numbers : Numbers) (cs : List Constant) (name : Name) → numbers ≡ numbers_by cs → (b : Bool)

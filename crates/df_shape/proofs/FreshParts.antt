@@ -1,12 +1,12 @@
 -- The names that the parts of a block bind are new.
-use Rattle.std.proofs.Common.{◌≡◌, Bool, true, false, if◌then◌else◌, ◌&&◌, ◌||◌, List, [], ◌∷◌, map, refl, sym, ◌∙◌, ap, subst, Option, Some, None, bytes_eq}
+use Rattle.std.proofs.Common.{◌≡◌, Bool, true, false, if◌then◌else◌, ◌&&◌, [], ◌∷◌, map, refl, sym, ◌∙◌, ap, subst, Option, Some, None}
 use Rattle.std.specs.List.{list_all}
 use Rattle.std.specs.Prelude.{not}
 use Rattle.df_syntax.specs.declared.tree.Named.{Named}
 use Rattle.df_syntax.specs.declared.tree.Expr.{Expr}
 use Rattle.df_syntax.specs.declared.tree.Definition.{Definition}
 use Rattle.df_syntax.specs.declared.tree.Assign.{Assign}
-use Rattle.df_syntax.specs.declared.tree.Node.{out-Node, roll-Node}
+use Rattle.df_syntax.specs.declared.tree.Node.{roll-Node}
 use Rattle.df_syntax.specs.declared.tree.Node.TheOpen.{Node-F}
 use Rattle.df_syntax.specs.declared.tree.Node.TheVariants as n
 use Rattle.df_syntax.specs.Trees.{Opened, layer_of}
@@ -14,7 +14,8 @@ use Rattle.df_syntax.specs.TreeInduction.{Proved, without, tree_induction}
 use Rattle.df_syntax.specs.Meaning.{Name}
 use Rattle.df_syntax.specs.FreshNames.{Taken, Fresh, also, is_fresh, node_fresh}
 use Rattle.df_syntax.specs.SourceForms.{bare, form, Recurrence, one_element, at_most, one_more, is_recurrence, recurrence_by, recurrence_of}
-use Rattle.df_shape.proofs.Agreement.{and_left, and_right, not_true}
+use Rattle.std.proofs.lemmas.Bool.{not-true}
+use Rattle.df_syntax.proofs.Tests.{and_left, and_right}
 use Rattle.df_shape.proofs.Opened.{rolled_from, opened}
 use Rattle.df_shape.proofs.Opened as node
 use Rattle.df_shape.proofs.Bare as bare_of
@@ -78,10 +79,10 @@ module _ (i t : Definition) (asked : Expr) (next step_ : Assign) (last : Expr) (
     second_holds = and_right (is_fresh i.value taken) second_fresh (and_right (not (taken i.name.name)) (is_fresh i.value taken && second_fresh) definitions_hold)
 
     i_new : taken i.name.name ≡ false
-    i_new = not_true (taken i.name.name) (and_left (not (taken i.name.name)) (is_fresh i.value taken && second_fresh) definitions_hold)
+    i_new = not-true (taken i.name.name) (and_left (not (taken i.name.name)) (is_fresh i.value taken && second_fresh) definitions_hold)
 
     t_new : also taken i.name.name t.name.name ≡ false
-    t_new = not_true (also taken i.name.name t.name.name) (and_left (not (also taken i.name.name t.name.name)) (is_fresh t.value (also taken i.name.name) && true) second_holds)
+    t_new = not-true (also taken i.name.name t.name.name) (and_left (not (also taken i.name.name t.name.name)) (is_fresh t.value (also taken i.name.name) && true) second_holds)
 
     t_fresh : is_fresh t.value (also taken i.name.name) ≡ true
     t_fresh = and_left (is_fresh t.value (also taken i.name.name)) true (and_right (not (also taken i.name.name t.name.name)) (is_fresh t.value (also taken i.name.name) && true) second_holds)

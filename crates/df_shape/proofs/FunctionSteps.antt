@@ -10,6 +10,7 @@ use Rattle.df_syntax.specs.declared.program.Function.{Function}
 use Rattle.df_syntax.specs.Demands.{first_refusal}
 use Rattle.df_syntax.specs.Meaning.{Name}
 use Rattle.df_syntax.specs.SourceForms.{Numbers, is_array}
+use Rattle.df_syntax.proofs.Pushed.{taken}
 use Rattle.df_syntax.proofs.FirstRefusals.{first_append, first_stays}
 use Rattle.df_names.specs.declared.map.NameMap.{NameMap}
 use Rattle.df_names.specs.Found.{names_of}
@@ -64,10 +65,6 @@ without_it : (x e r : Bool) → (x || ((e && false) || r)) ≡ (x || r)
 without_it x true r = refl
 without_it x false r = refl
 
-or_none : (x : Bool) → (x || false) ≡ x
-or_none true = refl
-or_none false = refl
-
 gives_head : (fs : List Function) (i : ℕ) (f : Function) (name : Name) → i < length fs → f ≡ get_or fs i f
     → gives_an_array (drop i fs) name ≡ ((bytes_eq f.name.name name && list_any is_array f.results) || gives_an_array (drop (i + 1) fs) name)
 gives_head fs i f name below is =
@@ -91,13 +88,6 @@ gives_not before all fs i f below is scalar h name =
     ∙ (ap (λ (b : Bool). is_in before name || ((bytes_eq f.name.name name && b) || gives_an_array (drop (i + 1) fs) name)) scalar
     ∙ without_it (is_in before name) (bytes_eq f.name.name name) (gives_an_array (drop (i + 1) fs) name)))
 
-pub gives_all : (map : NameMap (Unit {0})) (all left : List Function) → left ≡ [] → Holds map left all → is_in map ≡ gives_an_array all
-gives_all map all left none h =
-    λ i. λ (name : Name). sym (h name ∙ (ap (λ (fs : List Function). is_in map name || gives_an_array fs name) none ∙ or_none (is_in map name))) i
-
-pub gives_none : (map : NameMap (Unit {0})) (all : List Function) → names_of map ≡ nothing → Holds map all all
-gives_none map all is name = sym (ap (λ (names : Names (Unit {0})). is_some (names name) || gives_an_array all name) is)
-
 -- ---- functions that may be called
 
 swap : (a b c : Bool) → (a || (b || c)) ≡ (b || (a || c))
@@ -119,11 +109,6 @@ callable_step map after before f bound is =
     ∙ (ap (λ (among : Name → Bool). bytes_eq f.name.name name || among name) is ∙ sym (callable_more before f name))) i
 
 -- ---- all functions
-
-pub taken : {X : Type 0} (xs : List X) (i : ℕ) (x : X) → i < length xs → x ≡ get_or xs i x → take (i + 1) xs ≡ take i xs ++ x ∷ []
-taken [] i x below is = absurd (omega (arith, below))
-taken (y ∷ xs) zero x below is = ap (λ z. z ∷ []) (sym is)
-taken (y ∷ xs) (suc i) x below is = rw (add-one (suc i)) (ap (λ l. y ∷ l) (sym (ap (λ k. take k xs) (add-one i)) ∙ taken xs i x (omega (arith, below)) is))
 
 module _ (numbers : Numbers) (all : List Function) where
   step_at : (before : List Function) (f : Function) (rest : List Function) → (rest ≡ [] → ⊥) → first_refusal (function_demands numbers all before f) ≡ None

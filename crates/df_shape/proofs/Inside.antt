@@ -97,21 +97,6 @@ next_around walk c i t none =
     ap (λ (arrays : Name → Bool). record (around_of walk c) { arrays = arrays; part = Next i.name.name t.name.name })
     (own_array t.name.name (λ name. is_some (names_of walk.arrays.now name)) (is_array t.sort) c.own none)
 
-pub no_definitions : (around : Around) (ds : List Definition) (assigns : List Assign) → (length ds ≡ 2 → ⊥) → loop_demands around (definition_looks ds) (assign_looks assigns) ≡ []
-no_definitions around (d ∷ e ∷ []) assigns other = absurd (other refl)
-no_definitions around [] assigns other = refl
-no_definitions around (d ∷ []) assigns other = refl
-no_definitions around (d ∷ e ∷ f ∷ ds) assigns other = refl
-
-pub no_assigns : (around : Around) (ds : List Definition) (assigns : List Assign) → (length assigns ≡ 2 → ⊥) → loop_demands around (definition_looks ds) (assign_looks assigns) ≡ []
-no_assigns around (d ∷ e ∷ []) (a ∷ b ∷ []) other = absurd (other refl)
-no_assigns around (d ∷ e ∷ []) [] other = refl
-no_assigns around (d ∷ e ∷ []) (a ∷ []) other = refl
-no_assigns around (d ∷ e ∷ []) (a ∷ b ∷ c ∷ l) other = refl
-no_assigns around [] assigns other = refl
-no_assigns around (d ∷ []) assigns other = refl
-no_assigns around (d ∷ e ∷ f ∷ ds) assigns other = refl
-
 -- ---- the members of a list
 
 module _ {X Y : Type 0} (g : Y → Demands) (f : X → Y) where

@@ -3,7 +3,6 @@ pub mod Entered
 pub mod Manifests
 pub mod NamesInside
 pub mod Opened
-pub mod Pushed
 pub mod Ranged
 pub mod RenamedForms
 pub mod Spine

@@ -1,6 +1,5 @@
 -- What the names of the main function stand for, in a source and in its blocks.
-use Rattle.std.proofs.Common.{◌≡◌, ◌≢◌, ℕ, ℤ, Bool, true, false, if◌then◌else◌, ◌||◌, List, [], ◌∷◌, ◌++◌, append_assoc, append-nil, map, length, refl, sym, ◌∙◌, ap, subst, Option, Some, None, bytes_eq, ◌⊎◌, inl, inr}
-use Rattle.std.proofs.lemmas.Slice.Eq.{bytes_eq-Decides}
+use Rattle.std.proofs.Common.{◌≡◌, ℤ, Bool, true, false, if◌then◌else◌, ◌||◌, List, [], ◌∷◌, ◌++◌, append_assoc, length, refl, sym, ◌∙◌, ap, subst, Option, Some, None, bytes_eq, ◌⊎◌, inl, inr}
 use Rattle.df_values.specs.declared.values.Value.{Value}
 use Rattle.df_values.specs.declared.values.Value.TheVariants.{Int}
 use Rattle.df_syntax.specs.declared.bound.Bound.{Bound}
@@ -15,7 +14,7 @@ use Rattle.df_names.specs.Maps.{bind}
 use Rattle.df_shape.specs.declared.standing.Standing.{Standing}
 use Rattle.df_shape.specs.declared.standing.Standing.TheVariants as standing
 use Rattle.df_shape.specs.Renamed.{Names}
-use Rattle.df_shape.proofs.Agreement.{Bounds, Agree, AgreesBy, itself_after, other_after, bound_after, also_taken, not_taken, not_both}
+use Rattle.df_shape.proofs.Agreement.{Bounds, Agree, AgreesBy, other_after, also_taken, not_taken}
 use Rattle.df_shape.proofs.Kept.{Calls, with_calls}
 use Rattle.df_shape.proofs.ManifestMeaning.{HaveNumbers}
 

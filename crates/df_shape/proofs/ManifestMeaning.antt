@@ -1,8 +1,7 @@
 -- The value of a manifest expression is its meaning, wherever the constants stand for their numbers.
-use Rattle.std.proofs.Common.{◌≡◌, ℤ, Bool, true, false, if◌then◌else◌, List, [], ◌∷◌, ◌++◌, map, fold, refl, sym, ◌∙◌, ap, subst, Option, Some, None, bytes_eq, ◌⊎◌, inl, inr}
+use Rattle.std.proofs.Common.{◌≡◌, ℤ, Bool, true, false, if◌then◌else◌, List, [], ◌∷◌, map, refl, sym, ◌∙◌, ap, ap₂, subst, Option, Some, None, ◌⊎◌, inl, inr}
 use Rattle.std.specs.List.{list_all}
 use Rattle.df_values.specs.declared.values.Value.{Value}
-use Rattle.df_values.specs.declared.values.Value.TheVariants.{Int}
 use Rattle.df_values.specs.declared.kinds.Op.{Op}
 use Rattle.df_values.specs.Tables.{answer, negation}
 use Rattle.df_syntax.specs.declared.tree.Expr.{Expr}
@@ -12,6 +11,7 @@ use Rattle.df_syntax.specs.declared.tree.Node.TheOpen.{Node-F}
 use Rattle.df_syntax.specs.Trees.{Opened, layer_of, fold_rolled}
 use Rattle.df_syntax.specs.TreeInduction.{Proved, without, tree_induction}
 use Rattle.df_syntax.specs.Meaning.{Name, Env, Sense, sense, node_sense, value_of, ordinary, scalar, both, each, bound_at, joined}
+use Rattle.df_syntax.proofs.Senses.{sense_rolled}
 use Rattle.df_syntax.specs.SourceForms.{Numbers, number_value, is_arithmetic, joined_value, manifest_node, manifest_value, manifest}
 use Rattle.df_syntax.specs.SourceMeaning.{number_of}
 
@@ -26,7 +26,7 @@ both_below f a b c d (inr same) (inl none) = inl (ap (both f a) none ∙ no_righ
     no_right : (x : Option Value) → both f x None ≡ None
     no_right None = refl
     no_right (Some v) = refl
-both_below f a b c d (inr same) (inr alike) = inr (ap (λ x. both f x c) same ∙ ap (both f b) alike)
+both_below f a b c d (inr same) (inr alike) = inr (ap₂ (both f) same alike)
 
 each_below : (f : Value → Value) (a b : Option Value) → Below a b → Below (each f a) (each f b)
 each_below f a b (inl none) = inl (ap (each f) none)
@@ -44,7 +44,7 @@ module _ (numbers : Numbers) (env : Env) (known : HaveNumbers numbers env) where
   unfolding manifest_value
   meaning_by e x is h =
       subst (λ v. Below v ((sense e).value env)) (sym (fold_rolled (Option Value) (λ place node. manifest_node numbers node) e x is))
-      (subst (λ (s : Sense). Below (manifest_node numbers (layer_of (Option Value) (manifest_value numbers) x)) (s.value env)) (sym (fold_rolled Sense (λ place node. node_sense node) e x is)) h)
+      (subst (λ (s : Sense). Below (manifest_node numbers (layer_of (Option Value) (manifest_value numbers) x)) (s.value env)) (sym (sense_rolled e x is)) h)
 
   abbrev Links : Type 0
   Links = List ((l : Link) × IsMeaning l.operand)
@@ -70,19 +70,7 @@ module _ (numbers : Numbers) (env : Env) (known : HaveNumbers numbers env) where
   step e (Node-F.Negate of) is = meaning_by e (Node-F.Negate of.0) is (each_below negation _ _ of.1)
   step e (Node-F.Parens of) is = meaning_by e (Node-F.Parens of.0) is of.1
   step e (Node-F.TwoPlace o left right) is = meaning_by e (Node-F.TwoPlace o left.0 right.0) is (both_below (answer o) _ _ _ _ left.1 right.1)
-  step e (Node-F.Access name at) is = meaning_by e (Node-F.Access name at.0) is (inl refl)
-  step e (Node-F.Call name arguments) is = meaning_by e (Node-F.Call name (map (λ a. a.0) arguments)) is (inl refl)
-  step e (Node-F.Compare rel left right) is = meaning_by e (Node-F.Compare rel left.0 right.0) is (inl refl)
-  step e (Node-F.Invert of) is = meaning_by e (Node-F.Invert of.0) is (inl refl)
-  step e (Node-F.Test test of) is = meaning_by e (Node-F.Test test of.0) is (inl refl)
-  step e (Node-F.If arms last) is = meaning_by e (Node-F.If (map (λ a. a.0) arms) last.0) is (inl refl)
-  step e (Node-F.Let ds es) is = meaning_by e (Node-F.Let (map (λ d. d.0) ds) (map (λ x. x.0) es)) is (inl refl)
-  step e (Node-F.Construct index low high elem) is = meaning_by e (Node-F.Construct index low.0 high.0 elem.0) is (inl refl)
-  step e (Node-F.Fold index low high o elem) is = meaning_by e (Node-F.Fold index low.0 high.0 o elem.0) is (inl refl)
-  step e (Node-F.For ds asked assigns last) is = meaning_by e (Node-F.For (map (λ d. d.0) ds) asked.0 (map (λ a. a.0) assigns) last.0) is (inl refl)
-  step e (Node-F.Array at value) is = meaning_by e (Node-F.Array at.0 value.0) is (inl refl)
-  step e (Node-F.Update name at value) is = meaning_by e (Node-F.Update name at.0 value.0) is (inl refl)
-  step e (Node-F.Replaced parameters arguments body) is = meaning_by e (Node-F.Replaced parameters (map (λ a. a.0) arguments) body.0) is (inl refl)
+  step e y is = meaning_by e (without IsMeaning y) is (inl refl)
 
   meaning : (e : Expr) → IsMeaning e
   meaning = tree_induction IsMeaning step

@@ -1,14 +1,14 @@
 -- A source means what it means in blocks.
-use Rattle.std.proofs.Common.{◌≡◌, ℕ, zero, suc, ◌+◌, ℤ, Bool, true, false, ◌&&◌, ◌||◌, List, [], ◌∷◌, ◌++◌, append_assoc, append-nil, length, map, reverse, fold, refl, sym, ◌∙◌, ap, subst, Option, Some, None, IsTrue, bytes_eq, arith, ◌⊎◌, inl, inr}
-use Rattle.std.proofs.lemmas.List.{reverse-reverse, reverse-append}
+use Rattle.std.proofs.Common.{◌≡◌, ℕ, zero, suc, ◌+◌, ℤ, Bool, true, false, ◌&&◌, ◌||◌, List, [], ◌∷◌, ◌++◌, append_assoc, append-nil, length, map, reverse, refl, sym, ◌∙◌, ap, subst, Option, Some, None, IsTrue, bytes_eq, arith, add-zero, zero-add, ◌⊎◌, inl, inr}
+use Rattle.std.proofs.lemmas.List.{reverse-reverse}
 use Rattle.std.proofs.lemmas.Grind.{reverse_onto}
 use Rattle.std.proofs.lemmas.List.Folds.{list_all-append}
-use Rattle.std.specs.List.{list_all, list_any, zip}
-use Rattle.std.specs.Prelude.{flat_map, not, slice_get, slice_index_or}
+use Rattle.std.specs.List.{list_all, list_any}
+use Rattle.std.specs.Prelude.{flat_map, not, slice_index_or}
 use Rattle.df_values.specs.declared.values.Value.{Value}
-use Rattle.df_values.specs.Inputs.{Declaration, AreValid, IsAsDeclared}
+use Rattle.df_values.specs.Inputs.{AreValid}
 use Rattle.df_syntax.specs.declared.bound.Bound.{Bound}
-use Rattle.df_syntax.specs.declared.bound.Bound.TheVariants.{Scalar, Array}
+use Rattle.df_syntax.specs.declared.bound.Bound.TheVariants.{Scalar}
 use Rattle.df_syntax.specs.declared.tree.Expr.{Expr}
 use Rattle.df_syntax.specs.declared.tree.Sort.{Sort}
 use Rattle.df_syntax.specs.declared.tree.Sort.TheVariants as of
@@ -17,7 +17,6 @@ use Rattle.df_syntax.specs.declared.program.Constant.{Constant}
 use Rattle.df_syntax.specs.declared.program.Range.{Range}
 use Rattle.df_syntax.specs.declared.program.Function.{Function}
 use Rattle.df_syntax.specs.declared.program.Program.{Program}
-use Rattle.df_syntax.specs.declared.piped.Extent.{Extent}
 use Rattle.df_syntax.specs.declared.piped.Input.{Input}
 use Rattle.df_syntax.specs.declared.piped.Outcome.TheVariants as outcome
 use Rattle.df_syntax.specs.Demands.{first_refusal}
@@ -25,22 +24,23 @@ use Rattle.df_syntax.proofs.FirstRefusals.{begin_holds, rest_holds}
 use Rattle.df_syntax.specs.FreshNames.{Taken, also, is_fresh, parameters_fresh, function_fresh, declared_names, names_are_new}
 use Rattle.df_syntax.specs.FreshNames as fresh_names
 use Rattle.df_syntax.specs.Meaning.{Name, calls, bound_at}
-use Rattle.df_syntax.specs.BlockMeaning.{given, inputs_bound, blocks_made, result_of, values_of, cut, results_of, mean}
-use Rattle.df_syntax.specs.SourceForms.{Constants, Numbers, constants_of, numbers_of, manifest}
-use Rattle.df_syntax.specs.SourceMeaning.{bound_value, or_zero, extent_of, input_of, inputs_of, input_length, declared, source_calls, body_bounds, main_inputs, main_mean, source_inputs, source_mean}
+use Rattle.df_syntax.specs.BlockMeaning.{given, inputs_bound, blocks_made, result_of, values_of, cut, mean}
+use Rattle.df_syntax.specs.SourceForms.{Constants, Numbers, constants_of, numbers_of}
+use Rattle.df_syntax.specs.SourceMeaning.{bound_value, extent_of, input_of, inputs_of, input_length, declared, source_calls, body_bounds, main_inputs, main_mean, source_inputs, source_mean}
 use Rattle.df_names.specs.Maps.{bind}
-use Rattle.df_shape.specs.declared.standing.Standing.{Standing}
-use Rattle.df_shape.specs.declared.standing.Standing.TheVariants as standing
 use Rattle.df_shape.specs.Renamed.{Names, function_renamed}
 use Rattle.df_shape.specs.Shaped.{constant_standing, constant_names, standing_by, with_parameters, main_blocks, program_blocks, shaped}
 use Rattle.df_shape.specs.Demands.{Around}
 use Rattle.df_shape.specs.Sources.{constants_demands, one_range_demands, main_demands, function_demands, functions_demands, demands}
-use Rattle.df_shape.proofs.Agreement.{Bounds, and_left, and_right, not_true, itself_after, or_true}
+use Rattle.std.proofs.lemmas.Bool.{not-true}
+use Rattle.df_syntax.proofs.Tests.{and_left, and_right}
+use Rattle.df_shape.proofs.Agreement.{Bounds, itself_after}
 use Rattle.df_shape.proofs.Kept.{Calls, with_calls}
 use Rattle.df_shape.proofs.CallsKept.{Exact, number_bound, constants_exact, numbers_among, constants_agree, calls_kept, standing_constant, never_array}
 use Rattle.df_shape.proofs.InputsKept.{known, inputs_kept}
-use Rattle.df_shape.proofs.MainNames.{AreKnown, HaveMade, Known, IsScalar, IsArray, known_after}
+use Rattle.df_shape.proofs.MainNames.{AreKnown, Known, known_after}
 use Rattle.df_shape.proofs.DefinedKept.{After, own_target, is_itself}
+use Rattle.df_shape.proofs.Spine.{firsts}
 use Rattle.df_shape.proofs.SpineKept.{Outcomes, values_kept, expression_kept}
 use Rattle.df_shape.proofs.SpineKept as spine
 
@@ -134,22 +134,16 @@ module _ (numbers : Numbers) (of_source of_blocks : Calls) (same_calls : (name :
   parameters_known (p ∷ ps) (v ∷ vs) k names taken source blocks are fresh fit at =
       let x = p.name.name in
       let b = given_to p v in
-      let new : taken x ≡ false = not_true (taken x) (and_left _ _ fresh) in
+      let new : taken x ≡ false = not-true (taken x) (and_left _ _ fresh) in
       let next = known_after numbers of_blocks inputs start names taken source blocks [] are x (standing_by p.sort (outcome.Parameter k) x) new b []
       (own_target numbers of_source of_blocks same_calls inputs start taken x p.sort (outcome.Parameter k))
-      (parameter_known source blocks p k v (ap (λ n. slice_index_or inputs n []) (sym (plus_zero k)) ∙ at 0) fit.0) in
+      (parameter_known source blocks p k v (ap (λ n. slice_index_or inputs n []) (sym (add-zero k)) ∙ at 0) fit.0) in
       let rest = parameters_known ps vs (k + 1) (bind names x (standing_by p.sort (outcome.Parameter k) x)) (also taken x) (source ++ (x, b) ∷ []) (blocks ++ (x, b) ∷ []) next
-      (and_right (not (taken x)) _ fresh) fit.1 (λ j. ap (λ n. slice_index_or inputs n []) (one_more k j) ∙ at (suc j)) in
+      (and_right (not (taken x)) _ fresh) fit.1 (λ j. let same : k + 1 + j ≡ k + suc j = omega arith in ap (λ n. slice_index_or inputs n []) same ∙ at (suc j)) in
       let others = inputs_bound (inputs_of value ranges ps) vs in
       subst (λ l. Are (with_parameters k (p ∷ ps) names) (fresh_names.with_parameters (p ∷ ps) taken) (source ++ l) (blocks ++ l)) (first_bound p ps v vs)
       (subst (λ s. Are (with_parameters k (p ∷ ps) names) (fresh_names.with_parameters (p ∷ ps) taken) s (blocks ++ (x, b) ∷ others)) (append_assoc source ((x, b) ∷ []) others)
       (subst (λ c. Are (with_parameters k (p ∷ ps) names) (fresh_names.with_parameters (p ∷ ps) taken) ((source ++ (x, b) ∷ []) ++ others) c) (append_assoc blocks ((x, b) ∷ []) others) rest))
-    where
-      plus_zero : (k : ℕ) → k + 0 ≡ k
-      plus_zero k = omega arith
-
-      one_more : (k j : ℕ) → k + 1 + j ≡ k + suc j
-      one_more k j = omega arith
 
 -- ---- the main function
 
@@ -183,13 +177,6 @@ map_turned f fs = ap reverse (map_reverse fs) ∙ reverse-reverse (map f fs)
     map_reverse [] = refl
     map_reverse (x ∷ l) =
         ap (map f) (reverse_onto l x []) ∙ (map_append (reverse l) (x ∷ []) ∙ (ap (λ k. k ++ f x ∷ []) (map_reverse l) ∙ sym (reverse_onto (map f l) (f x) [])))
-
-all_firsts : {A : Expr → Type 0} (given : (e : Expr) → A e) (es : List Expr) → map (λ (c : (e : Expr) × A e). c.0) (map (λ (e : Expr). (e, given e)) es) ≡ es
-all_firsts given [] = refl
-all_firsts given (e ∷ es) = ap (λ l. e ∷ l) (all_firsts given es)
-
-zero_plus : (j : ℕ) → 0 + j ≡ j
-zero_plus j = omega arith
 
 fresh_parts : (es : List Expr) (taken : Taken) → list_all (λ (e : Expr). is_fresh e taken) es ≡ true → fresh_names.all_fresh (map is_fresh es) taken ≡ true
 fresh_parts [] taken h = refl
@@ -236,15 +223,15 @@ module _ (numbers : Numbers) (constants : Constants) (taken : Taken) (exact : Ex
     made = [];
     are =
         parameters_known numbers of_source of_blocks same_calls inputs start (known numbers constants exact) ranges main.parameters inputs 0 (constant_names numbers) taken constants [] constants_known
-        (and_left (parameters_fresh main.parameters taken) _ main_fresh) fit (λ j. ap (λ n. slice_index_or inputs n []) (zero_plus j));
+        (and_left (parameters_fresh main.parameters taken) _ main_fresh) fit (λ j. ap (λ n. slice_index_or inputs n []) (zero-add j));
     have = record { long = refl; split = λ more. refl };
   }
 
   abbrev kept_values : List ((e : Expr) × spine.Kept numbers of_source of_blocks same_calls inputs start e)
   kept_values = map (λ (e : Expr). (e, expression_kept numbers of_source of_blocks same_calls inputs start e)) main.values
 
-  firsts : map (λ c. c.0) kept_values ≡ main.values
-  firsts = all_firsts (expression_kept numbers of_source of_blocks same_calls inputs start) main.values
+  kept_firsts : map (λ c. c.0) kept_values ≡ main.values
+  kept_firsts = firsts (expression_kept numbers of_source of_blocks same_calls inputs start) main.values
 
   abbrev Gives : List Expr → Type 0
   Gives es =
@@ -253,10 +240,10 @@ module _ (numbers : Numbers) (constants : Constants) (taken : Taken) (exact : Ex
 
   gives : Gives main.values
   gives =
-      subst Gives firsts
+      subst Gives kept_firsts
       (values_kept numbers of_source of_blocks same_calls inputs start kept_values main_names main_taken (constants ++ start) [] around same begun
-      (subst (λ (es : List Expr). fresh_names.all_fresh (map is_fresh es) main_taken ≡ true) (sym firsts) (fresh_parts main.values main_taken (and_right (parameters_fresh main.parameters taken) _ main_fresh)))
-      (subst (λ (es : List Expr). first_refusal (main_demands es around) ≡ None) (sym firsts) main_holds) main.results)
+      (subst (λ (es : List Expr). fresh_names.all_fresh (map is_fresh es) main_taken ≡ true) (sym kept_firsts) (fresh_parts main.values main_taken (and_right (parameters_fresh main.parameters taken) _ main_fresh)))
+      (subst (λ (es : List Expr). first_refusal (main_demands es around) ≡ None) (sym kept_firsts) main_holds) main.results)
 
   main_kept : mean (program_blocks numbers ranges (main ∷ others)) inputs ≡ main_mean constants ranges (main ∷ others) inputs
   unfolding mean

@@ -105,29 +105,17 @@ is_error m v b is = rolled_from m ∙ (ap (λ (x : Opened). roll-Node x) is ∙ 
 pub is_name : (m : Node) (name : Name) → out-Node m ≡ Node-F.Name name → m ≡ n.Name name
 is_name m name is = rolled_from m ∙ (ap (λ (x : Opened). roll-Node x) is ∙ n.rolls-Name name)
 
-pub is_access : (m : Node) (name : Name) (at : Expr) → out-Node m ≡ Node-F.Access name at → m ≡ n.Access name at
-is_access m name at is = rolled_from m ∙ (ap (λ (x : Opened). roll-Node x) is ∙ n.rolls-Access name at)
-
 pub is_call : (m : Node) (name : Name) (arguments : List Expr) → out-Node m ≡ Node-F.Call name arguments → m ≡ n.Call name arguments
 is_call m name arguments is = rolled_from m ∙ (ap (λ (x : Opened). roll-Node x) is ∙ n.rolls-Call name arguments)
 
 pub is_chain : (m : Node) (first : Expr) (rest : List Link) → out-Node m ≡ Node-F.Chain first rest → m ≡ n.Chain first rest
 is_chain m first rest is = rolled_from m ∙ (ap (λ (x : Opened). roll-Node x) is ∙ n.rolls-Chain first rest)
 
-pub is_compare : (m : Node) (rel : Rel) (left right : Expr) → out-Node m ≡ Node-F.Compare rel left right → m ≡ n.Compare rel left right
-is_compare m rel left right is = rolled_from m ∙ (ap (λ (x : Opened). roll-Node x) is ∙ n.rolls-Compare rel left right)
-
 pub is_negate : (m : Node) (of : Expr) → out-Node m ≡ Node-F.Negate of → m ≡ n.Negate of
 is_negate m of is = rolled_from m ∙ (ap (λ (x : Opened). roll-Node x) is ∙ n.rolls-Negate of)
 
-pub is_invert : (m : Node) (of : Expr) → out-Node m ≡ Node-F.Invert of → m ≡ n.Invert of
-is_invert m of is = rolled_from m ∙ (ap (λ (x : Opened). roll-Node x) is ∙ n.rolls-Invert of)
-
 pub is_parens : (m : Node) (of : Expr) → out-Node m ≡ Node-F.Parens of → m ≡ n.Parens of
 is_parens m of is = rolled_from m ∙ (ap (λ (x : Opened). roll-Node x) is ∙ n.rolls-Parens of)
-
-pub is_test : (m : Node) (test : Test) (of : Expr) → out-Node m ≡ Node-F.Test test of → m ≡ n.Test test of
-is_test m test of is = rolled_from m ∙ (ap (λ (x : Opened). roll-Node x) is ∙ n.rolls-Test test of)
 
 pub is_twoplace : (m : Node) (op : Op) (left right : Expr) → out-Node m ≡ Node-F.TwoPlace op left right → m ≡ n.TwoPlace op left right
 is_twoplace m op left right is = rolled_from m ∙ (ap (λ (x : Opened). roll-Node x) is ∙ n.rolls-TwoPlace op left right)
@@ -141,9 +129,6 @@ is_let m ds values is = rolled_from m ∙ (ap (λ (x : Opened). roll-Node x) is 
 pub is_construct : (m : Node) (index : Named) (low high elem : Expr) → out-Node m ≡ Node-F.Construct index low high elem → m ≡ n.Construct index low high elem
 is_construct m index low high elem is = rolled_from m ∙ (ap (λ (x : Opened). roll-Node x) is ∙ n.rolls-Construct index low high elem)
 
-pub is_fold : (m : Node) (index : Named) (low high : Expr) (op : Op) (elem : Expr) → out-Node m ≡ Node-F.Fold index low high op elem → m ≡ n.Fold index low high op elem
-is_fold m index low high op elem is = rolled_from m ∙ (ap (λ (x : Opened). roll-Node x) is ∙ n.rolls-Fold index low high op elem)
-
 pub is_for : (m : Node) (ds : List Definition) (test : Expr) (assigns : List Assign) (last : Expr) → out-Node m ≡ Node-F.For ds test assigns last → m ≡ n.For ds test assigns last
 is_for m ds test assigns last is = rolled_from m ∙ (ap (λ (x : Opened). roll-Node x) is ∙ n.rolls-For ds test assigns last)
 
@@ -152,8 +137,5 @@ is_array m at value is = rolled_from m ∙ (ap (λ (x : Opened). roll-Node x) is
 
 pub is_update : (m : Node) (name : Name) (at value : Expr) → out-Node m ≡ Node-F.Update name at value → m ≡ n.Update name at value
 is_update m name at value is = rolled_from m ∙ (ap (λ (x : Opened). roll-Node x) is ∙ n.rolls-Update name at value)
-
-pub is_replaced : (m : Node) (parameters : List Parameter) (arguments : List Expr) (body : Expr) → out-Node m ≡ Node-F.Replaced parameters arguments body → m ≡ n.Replaced parameters arguments body
-is_replaced m parameters arguments body is = rolled_from m ∙ (ap (λ (x : Opened). roll-Node x) is ∙ n.rolls-Replaced parameters arguments body)
 
 pub ruleset forms = (number, truth, fault, named, access, called, chain, compared, negate, invert, parens, tested, two_place, chosen, let_in, construct, folded, loop, array, updated, replaced)

@@ -30,14 +30,15 @@ use Rattle.df_shape.specs.declared.answers.ShapeAnswer.{ShapeAnswer}
 use Rattle.df_shape.specs.declared.standing.Standing.{Standing}
 use Rattle.df_shape.specs.declared.standing.Standing.TheVariants as standing
 use Rattle.df_shape.specs.Renamed.{Names}
-use Rattle.df_shape.specs.Demands.{Demands, Around, Look, call_rule, block_rule, conditional_rule, defined_rule, array_rule, range_rule, subscript_rule, own_demands, inner_demands, look_node, demands_of, or_array, length_between, range_demands, recurrence_demands, manifest_demand, demand}
+use Rattle.df_shape.specs.Demands.{Demands, Around, Look, range_rule, own_demands, inner_demands, look_node, demands_of, or_array, length_between, range_demands, recurrence_demands, manifest_demand, demand}
 use Rattle.df_shape.specs.Sources as source
 use Rattle.df_shape.specs.Sources.{whole, demands, functions_demands, last_demands, body_demands, body_definitions, with_arrays}
 use Rattle.df_shape.specs.Shaped as shape
 use Rattle.df_shape.specs.Shaped.{Made, Blocks, scalar_body, array_body, recurrence_body, name_standing, define_by, define, result_by, result, each_result, body_blocks, all_defined, blocks_node, blocks_of, main_blocks, program_blocks, shaped}
 use Rattle.df_shape.specs.Bounded.{HasBounds, HaveBounds}
 use Rattle.df_shape.proofs.Opened.{rolled_from}
-use Rattle.df_shape.proofs.Spine.{firsts}
+use Rattle.df_shape.proofs.Spine.{firsts, blocks_at}
+use Rattle.df_shape.proofs.BoundsKnown.{range_held}
 
 -- ---- short bodies
 
@@ -98,14 +99,11 @@ all_hold around e x is h = subst (λ (l : Look). Holds (l around)) (beside_rolle
 
 -- the demand on its range
 own_hold : (around : Around) (e : Expr) → Holds (demands_of e around) → Holds (range_rule around e (seen (out-Node e.node)))
+unfolding Holds
 own_hold around e h =
     let node = seen (out-Node e.node) in
-    let own : Holds (own_demands around e node) =
-    first_part (own_demands around e node) (inner_demands around (layer_of (Expr × Look) (λ c. (c, demands_of c)) (out-Node e.node)))
-    (all_hold around e (out-Node e.node) (rolled_from e.node) h) in
-    first_part (range_rule around e node) (subscript_rule around e.place node)
-    (last_part (array_rule around.part e.place node) _ (last_part (defined_rule around around.part e) _ (last_part (conditional_rule around e node) _
-    (last_part (block_rule around e.place node) _ (last_part (call_rule around e.place node) _ own)))))
+    range_held around e node
+    (begin_holds (own_demands around e node) (inner_demands around (layer_of (Expr × Look) (λ c. (c, demands_of c)) (out-Node e.node))) (all_hold around e (out-Node e.node) (rolled_from e.node) h))
 
 -- what stands in parentheses keeps the demands on the whole
 inside_hold : (around : Around) (e : Expr) (of : Expr) → e.node ≡ roll-Node (Node-F.Parens of) → Holds (demands_of e around) → Holds (demands_of of around)
@@ -241,7 +239,7 @@ several_short : (around : Around) (es : List Expr) (made : Made) (sorts : List S
     → Holds (flat_map (λ (e : Expr × Look). demands_of e.0 (whole around)) (looks es)) → AreShort made.blocks
     → AreShort (each_result around.numbers (map (λ (e : Expr × Blocks around.numbers). e.0) (map (λ e. (e, blocks_of around.numbers e)) es)) made sorts).0
 several_short around es made sorts h k =
-    subst (λ (l : List Expr). AreShort (each_result around.numbers l made sorts).0) (sym (firsts around.numbers es)) (each_short around es made sorts h k)
+    subst (λ (l : List Expr). AreShort (each_result around.numbers l made sorts).0) (sym (firsts (blocks_of around.numbers) es)) (each_short around es made sorts h k)
 
 values_short : (vs : List ((e : Expr) × Short e)) (around : Around) (made : Made) (sorts : List Sort)
     → Holds (body_demands (looks (map (λ e. e.0) vs)) around) → AreShort made.blocks
@@ -254,11 +252,6 @@ values_short (e ∷ d ∷ vs) around made sorts h k = several_short around (e.0 
 body_at : (e : Expr) (x : Opened) → e.node ≡ roll-Node x → source.body_of e ≡ source.body_node e (layer_of (Expr × Look) (λ c. (c, source.body_of c)) x)
 unfolding source.body_of
 body_at e x is = beside_rolled Look source.body_node e x is
-
-blocks_at : (numbers : Numbers) (e : Expr) (x : Opened) → e.node ≡ roll-Node x
-    → blocks_of numbers e ≡ blocks_node numbers e (layer_of (Expr × Blocks numbers) (λ c. (c, blocks_of numbers c)) x)
-unfolding blocks_of
-blocks_at numbers e x is = beside_rolled (Blocks numbers) (blocks_node numbers) e x is
 
 -- by what the node of an expression tells
 short_by : (e : Expr) (x : Opened) → e.node ≡ roll-Node x

@@ -28,7 +28,7 @@ renamed_whole : (names : Names) (e : Expr) (x : Opened) → e.node ≡ roll-Node
 unfolding renamed
 renamed_whole names e x is = fold_rolled Expr (λ place node. made_at place (node_renamed names node)) e x is
 
-renamed_node : (names : Names) (e : Expr) (x : Opened) → e.node ≡ roll-Node x
+pub renamed_node : (names : Names) (e : Expr) (x : Opened) → e.node ≡ roll-Node x
     → (renamed names e).node ≡ node_renamed names (layer_of Expr (renamed names) x)
 renamed_node names e x is = ap (λ (d : Expr). d.node) (renamed_whole names e x is)
 

@@ -1,5 +1,5 @@
 -- The body of a main function, as it is put into blocks.
-use Rattle.std.proofs.Common.{◌≡◌, Result, Ok, Err, OnOk, subst, true, false, if◌then◌else◌, List, [], ◌∷◌, ◌++◌, map, length, refl, sym, ◌∙◌, ap, append_assoc, append-nil}
+use Rattle.std.proofs.Common.{◌≡◌, Result, Ok, Err, OnOk, subst, true, false, if◌then◌else◌, List, [], ◌∷◌, ◌++◌, map, length, refl, sym, ◌∙◌, ap, append-nil}
 use Rattle.std.proofs.lemmas.List.Elements.{All-push}
 use Rattle.df_syntax.specs.declared.tree.Sort.{Sort}
 use Rattle.df_syntax.specs.declared.tree.Expr.{Expr}
@@ -12,12 +12,10 @@ use Rattle.df_syntax.specs.declared.piped.Outcome.{Outcome}
 use Rattle.df_syntax.specs.Trees.{Opened, layer_of}
 use Rattle.df_syntax.specs.Besides.{beside_rolled}
 use Rattle.df_syntax.specs.SourceForms.{Numbers, form, is_let}
-use Rattle.df_names.specs.Found.{names_of}
 use Rattle.df_shape.specs.declared.blocks.Building.{Building}
-use Rattle.df_shape.specs.Renamed.{Names}
-use Rattle.df_shape.specs.Shaped.{Made, Blocks, define, all_defined, result, each_result, blocks_node, blocks_of, main_blocks}
+use Rattle.df_shape.specs.Shaped.{Made, Blocks, define, all_defined, each_result, blocks_node, blocks_of, main_blocks}
 use Rattle.df_shape.specs.Bounded.{HasBounds, HaveBounds}
-use Rattle.df_shape.specs.Building.{made_of, parts_of, with_parts, definitions_made, result_parts}
+use Rattle.df_shape.specs.Building.{made_of, parts_of, with_parts, definitions_made}
 use Rattle.df_shape.proofs.Opened.{rolled_from, is_parens}
 use Rattle.df_shape.proofs.Opened as opened
 
@@ -29,43 +27,15 @@ bounds_more blocks new b is h all = rw is (All-push (λ (b : Block). HasBounds b
 
 -- ---- results
 
-abbrev made : Names → List Block → Made
-made names blocks = record { names = names; blocks = blocks }
-
-made_with : (names names' : Names) (blocks blocks' : List Block) → names' ≡ names → blocks' ≡ blocks → made names' blocks' ≡ made names blocks
-made_with names names' blocks blocks' p q = ap (λ (x : Names). made x blocks') p ∙ ap (made names) q
-
--- one result more
-pub result_step : (numbers : Numbers) (v : Expr) (vs : List Expr) (s : Sort) (ss : List Sort) (before after : Building)
-    → names_of after.names ≡ names_of before.names
-    → parts_of after ≡ with_parts before (result_parts numbers (made_of before) s v)
-    → with_parts after (each_result numbers vs (made_of after) ss) ≡ with_parts before (each_result numbers (v ∷ vs) (made_of before) (s ∷ ss))
-result_step numbers v vs s ss before after names is =
-    let r = result numbers (made_of before) s v in
-    let blocks : after.blocks ≡ r.1 = ap (λ (p : List Block × List Outcome). p.0) is in
-    let results : after.results ≡ before.results ++ r.0 ∷ [] = ap (λ (p : List Block × List Outcome). p.1) is in
-    let same : made_of after ≡ record (made_of before) { blocks = r.1 } = made_with (names_of before.names) (names_of after.names) r.1 after.blocks
-    names blocks in
-    ap (λ (m : Made). with_parts after (each_result numbers vs m ss)) same
-    ∙ (ap (λ (l : List Outcome). (
-      (each_result numbers vs (record (made_of before) { blocks = r.1 }) ss).0,
-      l ++
-          (each_result numbers vs (record (made_of before) { blocks = r.1 }) ss).1,
-    )) results
-    ∙ ap (λ (l : List Outcome). ((each_result numbers vs (record (made_of before) { blocks = r.1 }) ss).0, l))
-    (append_assoc before.results (r.0 ∷ []) (each_result numbers vs (record (made_of before) { blocks = r.1 }) ss).1))
-
 -- no further results
-pub no_values : (numbers : Numbers) (ss : List Sort) (at : Building) → with_parts at (each_result numbers [] (made_of at) ss) ≡ parts_of at
-no_values numbers ss at = ap (λ (l : List Outcome). (at.blocks, l)) (append-nil at.results)
-
 pub no_sorts : (numbers : Numbers) (vs : List Expr) (at : Building) → with_parts at (each_result numbers vs (made_of at) []) ≡ parts_of at
 no_sorts numbers [] at = ap (λ (l : List Outcome). (at.blocks, l)) (append-nil at.results)
 no_sorts numbers (v ∷ vs) at = ap (λ (l : List Outcome). (at.blocks, l)) (append-nil at.results)
 
 -- ---- forms
 
-blocks_at : (numbers : Numbers) (e : Expr) (x : Opened) → e.node ≡ roll-Node x
+-- what an expression gives in blocks, by its node
+pub blocks_at : (numbers : Numbers) (e : Expr) (x : Opened) → e.node ≡ roll-Node x
     → blocks_of numbers e ≡ blocks_node numbers e (layer_of (Expr × Blocks numbers) (λ c. (c, blocks_of numbers c)) x)
 unfolding blocks_of
 blocks_at numbers e x is = beside_rolled (Blocks numbers) (blocks_node numbers) e x is
@@ -108,15 +78,15 @@ plain_blocks numbers e p q =
     ∙ plain_at numbers e (blocks_of numbers) (out-Node e.node) (λ of is. p of (is_parens e.node of is))
     (λ ds values is. q ds values (opened.is_let e.node ds values is))
 
-pub firsts : (numbers : Numbers) (vs : List Expr) → map (λ (e : Expr × Blocks numbers). e.0) (map (λ e. (e, blocks_of numbers e)) vs) ≡ vs
-firsts numbers [] = refl
-firsts numbers (v ∷ vs) = ap (λ l. v ∷ l) (firsts numbers vs)
+pub firsts : {X : Type 0} {A : X → Type 0} (f : (x : X) → A x) (xs : List X) → map (λ (p : (x : X) × A x). p.0) (map (λ (x : X). (x, f x)) xs) ≡ xs
+firsts f [] = refl
+firsts f (x ∷ xs) = ap (λ l. x ∷ l) (firsts f xs)
 
 -- none or several values are results
 pub several : (numbers : Numbers) (vs : List Expr) → (length vs ≡ 1 → ⊥) → main_blocks numbers vs ≡ each_result numbers vs
 several numbers [] p = refl
 several numbers (v ∷ []) p = absurd (p refl)
-several numbers (v ∷ w ∷ vs) p = ap (λ l. each_result numbers (v ∷ w ∷ l)) (firsts numbers vs)
+several numbers (v ∷ w ∷ vs) p = ap (λ l. each_result numbers (v ∷ w ∷ l)) (firsts (blocks_of numbers) vs)
 
 -- ---- steps of the code
 

@@ -1,5 +1,5 @@
 -- The body of the main function gives the same in a source and in its blocks.
-use Rattle.std.proofs.Common.{◌≡◌, ℕ, Bool, true, false, if◌then◌else◌, ◌&&◌, List, [], ◌∷◌, ◌++◌, append_assoc, append-nil, map, refl, sym, ◌∙◌, ap, subst, Option, Some, None}
+use Rattle.std.proofs.Common.{◌≡◌, Bool, true, false, if◌then◌else◌, ◌&&◌, List, [], ◌∷◌, ◌++◌, append_assoc, append-nil, map, refl, sym, ◌∙◌, ap, ap₂, subst, Option, None}
 use Rattle.std.specs.List.{list_all}
 use Rattle.std.specs.Prelude.{flat_map, not}
 use Rattle.df_values.specs.declared.values.Value.{Value}
@@ -19,28 +19,24 @@ use Rattle.df_syntax.specs.Demands.{first_refusal}
 use Rattle.df_syntax.proofs.FirstRefusals.{begin_holds, rest_holds}
 use Rattle.df_syntax.specs.Meaning.{Name, Env}
 use Rattle.df_syntax.specs.BlockMeaning.{blocks_made, result_of, values_of}
-use Rattle.df_syntax.specs.FreshNames.{Taken, Fresh, also, with_defined, definitions_fresh, all_fresh, is_fresh, node_fresh}
+use Rattle.df_syntax.specs.FreshNames.{Taken, Fresh, also, with_defined, definitions_fresh, all_fresh, is_fresh}
 use Rattle.df_syntax.specs.SourceForms.{Numbers, form, is_let}
-use Rattle.df_syntax.specs.SourceMeaning.{Stands, bound_of, each_bound, body_stands, bounds_defined, stands_node, stands}
+use Rattle.df_syntax.specs.SourceMeaning.{Stands, each_bound, body_stands, bounds_defined, stands_node, stands}
 use Rattle.df_shape.specs.Renamed.{Names}
-use Rattle.df_shape.specs.Shaped.{Made, Blocks, name_standing, define, result, each_result, body_blocks, all_defined, blocks_node, blocks_of}
-use Rattle.df_shape.specs.Demands.{Demands, Around, Look, or_array, demands_of}
+use Rattle.df_shape.specs.Shaped.{Blocks, name_standing, define, result, each_result, body_blocks, all_defined, blocks_node, blocks_of}
+use Rattle.df_shape.specs.Demands.{Around, Look, or_array, demands_of}
 use Rattle.df_shape.specs.Sources.{whole, body_definitions, with_arrays, body_demands, body_node, body_of}
-use Rattle.df_shape.proofs.Agreement.{Bounds, and_left, and_right, not_true}
+use Rattle.std.proofs.lemmas.Bool.{not-true}
+use Rattle.df_syntax.proofs.Tests.{and_left, and_right}
+use Rattle.df_shape.proofs.Agreement.{Bounds}
 use Rattle.df_shape.proofs.Kept.{Calls, with_calls, fresh_rolled}
-use Rattle.df_shape.proofs.BoundsKnown.{BoundsKnown, bounds_known}
+use Rattle.df_shape.proofs.BoundsKnown.{bounds_known}
+use Rattle.df_shape.proofs.Spine.{firsts, blocks_at}
 use Rattle.df_shape.proofs.DefinedKept.{After, Given, defined_after, result_after}
-
-two : {A B C : Type 0} (f : A → B → C) {a c : A} {b d : B} → a ≡ c → b ≡ d → f a b ≡ f c d
-two f {a} {c} {b} {d} p q = ap (λ x. f x b) p ∙ ap (λ y. f c y) q
 
 -- a list of expressions, each beside what it gives
 abbrev beside : {A : Type 0} → (Expr → A) → List Expr → List (Expr × A)
 beside f es = map (λ (e : Expr). (e, f e)) es
-
-first_beside : {A : Type 0} (f : Expr → A) (es : List Expr) → map (λ (e : Expr × A). e.0) (beside f es) ≡ es
-first_beside f [] = refl
-first_beside f (e ∷ es) = ap (λ l. e ∷ l) (first_beside f es)
 
 -- definitions, each beside what its value gives
 abbrev defined_beside : {A : Type 0} → (Expr → A) → List Definition → List (Named × Sort × (Expr × A))
@@ -76,7 +72,7 @@ module _ (numbers : Numbers) (of_source of_blocks : Calls) (same_calls : (name :
         more = first.more ++ rest.more;
         grown = rest.grown ∙ (ap (λ l. l ++ rest.more) first.grown ∙ append_assoc after.made first.more rest.more);
         gives = λ later.
-            two (λ (x : List (List Value)) (xs : List (List Value)). x ++ xs)
+            ap₂ (λ (x : List (List Value)) (xs : List (List Value)). x ++ xs)
             (ap (λ l. map (result_of inputs l) ((result numbers (record { names = names; blocks = list }) s e).0 ∷ []))
             (ap (λ l. l ++ later) rest.grown ∙ append_assoc first.final.made rest.more later)
             ∙ first.gives (rest.more ++ later))
@@ -130,7 +126,7 @@ module _ (numbers : Numbers) (of_source of_blocks : Calls) (same_calls : (name :
       let known = bounds_known numbers (whole around) same d.value (begin_holds (demands_of d.value (whole around)) (body_definitions others (defined_beside body_of ds)) holds) in
       let tail = and_right (not (taken d.name.name)) (is_fresh d.value taken && definitions_fresh (freshness ds) (also taken d.name.name)) fresh in
       let next = defined_after numbers of_source of_blocks same_calls inputs start names taken source list after d.name d.sort d.value
-      (not_true (taken d.name.name) (and_left _ _ fresh)) (and_left (is_fresh d.value taken) _ tail) known (name_standing numbers names (form d.value)) refl in
+      (not-true (taken d.name.name) (and_left _ _ fresh)) (and_left (is_fresh d.value taken) _ tail) known (name_standing numbers names (form d.value)) refl in
       let made = define numbers (record { names = names; blocks = list }) d.name d.sort d.value in
       let rest = definitions_after ds made.names (also taken d.name.name) _ made.blocks others same next (and_right (is_fresh d.value taken) _ tail)
       (rest_holds (demands_of d.value (whole around)) (body_definitions others (defined_beside body_of ds)) holds) in
@@ -141,10 +137,6 @@ module _ (numbers : Numbers) (of_source of_blocks : Calls) (same_calls : (name :
   stands_is : (e : Expr) (x : Opened) → e.node ≡ roll-Node x → stands e ≡ stands_node e (layer_of (Expr × Stands) (λ c. (c, stands c)) x)
   unfolding stands
   stands_is e x is = beside_rolled Stands stands_node e x is
-
-  blocks_is : (e : Expr) (x : Opened) → e.node ≡ roll-Node x → blocks_of numbers e ≡ blocks_node numbers e (layer_of (Expr × Blocks numbers) (λ c. (c, blocks_of numbers c)) x)
-  unfolding blocks_of
-  blocks_is e x is = beside_rolled (Blocks numbers) (blocks_node numbers) e x is
 
   body_is : (e : Expr) (x : Opened) → e.node ≡ roll-Node x → body_of e ≡ body_node e (layer_of (Expr × Look) (λ c. (c, body_of c)) x)
   unfolding body_of
@@ -161,7 +153,7 @@ module _ (numbers : Numbers) (of_source of_blocks : Calls) (same_calls : (name :
       (body_node e (layer_of (Expr × Look) (λ c. (c, body_of c)) x))
       → Kept e
   kept_by e x is h =
-      subst (λ (b : Blocks numbers). KeptBy e b (stands e) (body_of e)) (sym (blocks_is e x is))
+      subst (λ (b : Blocks numbers). KeptBy e b (stands e) (body_of e)) (sym (blocks_at numbers e x is))
       (subst (λ (s : Stands). KeptBy e (blocks_node numbers e (layer_of (Expr × Blocks numbers) (λ c. (c, blocks_of numbers c)) x)) s (body_of e)) (sym (stands_is e x is))
       (subst (λ (l : Look). KeptBy e (blocks_node numbers e (layer_of (Expr × Blocks numbers) (λ c. (c, blocks_of numbers c)) x)) (stands_node e (layer_of (Expr × Stands) (λ c. (c, stands c)) x)) l) (sym (body_is e x is)) h))
 
@@ -191,10 +183,10 @@ module _ (numbers : Numbers) (of_source of_blocks : Calls) (same_calls : (name :
       let all = map (λ (c : (e : Expr) × Kept e). c.0) (e ∷ d ∷ es) in
       subst (λ (l : List Expr). Outcomes (each_result numbers l (record { names = names; blocks = list }) sorts).0 (each_result numbers l (record { names = names; blocks = list }) sorts).1
       (each_bound (map (λ (c : Expr × Stands). c.0) (beside stands all)) (with_calls of_source source) sorts))
-      (sym (first_beside (blocks_of numbers) all))
+      (sym (firsts (blocks_of numbers) all))
       (subst (λ (l : List Expr). Outcomes (each_result numbers all (record { names = names; blocks = list }) sorts).0 (each_result numbers all (record { names = names; blocks = list }) sorts).1
       (each_bound l (with_calls of_source source) sorts))
-      (sym (first_beside stands all))
+      (sym (firsts stands all))
       (alone names taken source list around same after all (each_fresh all taken fresh) (each_holds all around holds) sorts))
     where
       each_fresh : (l : List Expr) (t : Taken) → all_fresh (map is_fresh l) t ≡ true → list_all (λ (c : Expr). is_fresh c t) l ≡ true

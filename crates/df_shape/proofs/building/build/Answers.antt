@@ -11,7 +11,7 @@ use Rattle.df_names.specs.Found.{names_of}
 use Rattle.df_shape.specs.Shaped.{program_blocks, shaped}
 use Rattle.df_shape.specs.Sources.{demands}
 use Rattle.df_shape.specs.Bounded.{HaveBounds}
-use Rattle.df_shape.proofs.Pushed.{taken}
+use Rattle.df_syntax.proofs.Pushed.{taken}
 use Rattle.df_shape.proofs.building.build.Goals as goal
 
 -- where there is no function

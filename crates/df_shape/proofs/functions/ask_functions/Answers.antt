@@ -7,7 +7,8 @@ use Rattle.df_shape.specs.Sources.{callable_among, array_parameters, main_demand
 use Rattle.df_shape.specs.Functions.{is_in, function_in, main_in}
 use Rattle.df_shape.proofs.Joined.{handed_on}
 use Rattle.df_shape.proofs.Passes.{kept_of, kept_as}
-use Rattle.df_shape.proofs.FunctionSteps.{function_step, function_stop, function_last, callable_step, taken, around_by, around_none}
+use Rattle.df_syntax.proofs.Pushed.{taken}
+use Rattle.df_shape.proofs.FunctionSteps.{function_step, function_stop, function_last, callable_step, around_by, around_none}
 use Rattle.df_shape.proofs.functions.ask_functions.Goals as goal
 
 pub returns-then-i-functions : goal.returns-then-i-functions

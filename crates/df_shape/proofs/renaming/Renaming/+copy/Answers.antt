@@ -7,7 +7,7 @@ use Rattle.df_syntax.specs.declared.tree.Link.{Link}
 use Rattle.df_syntax.specs.declared.tree.Arm.{Arm}
 use Rattle.df_syntax.specs.declared.tree.Assign.{Assign}
 use Rattle.df_syntax.specs.declared.tree.Definition.{Definition}
-use Rattle.df_shape.proofs.Pushed.{pushed}
+use Rattle.df_syntax.proofs.Pushed.{pushed}
 use Rattle.df_shape.proofs.RenamedForms.{call, chain, chosen, let_is, construct, folded, looped_by, updated, was_replaced, placed}
 use Rattle.df_shape.proofs.renaming.Renaming.+copy.Goals as goal
 
