@@ -1,9 +1,12 @@
 -- Names and inputs, one more in each turn.
-use Rattle.std.proofs.Common.{◌≡◌, ℕ, ℤ, ◌+◌, ◌<◌, Bool, true, false, ◌||◌, if◌then◌else◌, List, [], ◌∷◌, ◌++◌, length, take, get_or, refl, sym, ◌∙◌, ap, bytes_eq, fold, map, Option, Some, None}
+use Rattle.std.proofs.Common.{◌≡◌, ℕ, ℤ, pos, ◌+◌, ◌<◌, Bool, true, false, ◌||◌, if◌then◌else◌, List, [], ◌∷◌, ◌++◌, length, take, get_or, refl, sym, ◌∙◌, ap, bytes_eq, fold, map, Option, Some, None, arith}
 use Rattle.std.specs.List.{list_any}
 use Rattle.std.specs.Option.{is_some}
 use Rattle.std.proofs.lemmas.List.Folds.{list_any-append}
+use Rattle.std.proofs.lemmas.List.Elements.{All-nil, All-cons}
+use Rattle.std.proofs.lemmas.Int.{ints}
 use Rattle.std.proofs.lemmas.Slice.Eq.{bytes_eq-Decides}
+use Rattle.df_values.specs.Values.{least, greatest}
 use Rattle.df_syntax.specs.declared.tree.Sort.TheVariants as of
 use Rattle.df_syntax.specs.declared.tree.Parameter.{Parameter}
 use Rattle.df_syntax.specs.declared.tree.Expr.{Expr}
@@ -18,6 +21,7 @@ use Rattle.df_syntax.specs.SourceMeaning.{extent_over, extent_of, input_of, inpu
 use Rattle.df_names.specs.Maps.{bind}
 use Rattle.df_shape.specs.declared.standing.Standing.{Standing}
 use Rattle.df_shape.specs.Shaped.{constant_standing, constant_names}
+use Rattle.df_shape.specs.Bounded.{IsBounded, IsBoundedRange, AreBounded, HaveBoundedExtents}
 use Rattle.df_shape.specs.Entries.{numbers_by, standing_in, extents_found, or_empty, input_found}
 use Rattle.df_syntax.proofs.Pushed.{taken}
 use Rattle.std.proofs.lemmas.Bool.{or_parts}
@@ -147,6 +151,15 @@ range_missed value rs i r h at is =
     ∙ sym (found_last value (take i rs) r name)) j)
     ∙ ap (extents_found value) (sym (taken rs i r h at))
 
+one_bounded : (b : Bool) (e : Extent) (o : Option Extent) → IsBounded e.lo e.n → IsBoundedRange o → IsBoundedRange (if b then Some e else o)
+one_bounded true e o h k = h
+one_bounded false e o h k = k
+
+-- one range more whose bounds are ordinary
+pub range_bounded : (extents : Name → Option Extent) (name : Name) (e : Extent) → AreBounded extents → IsBounded e.lo e.n → AreBounded (bind extents name e)
+unfolding bind
+range_bounded extents name e h k = λ other. one_bounded (bytes_eq name other) e (extents other) k (h other)
+
 -- ---- inputs
 
 or_empty_if : (b : Bool) (e : Extent) (o : Option Extent) → or_empty (if b then Some e else o) ≡ (if b then e else or_empty o)
@@ -171,3 +184,25 @@ pub all_inputs : (value : Expr → ℤ) (rs : List Range) (ps : List Parameter) 
 all_inputs value rs ps found is =
     ap (λ (f : Name → Option Extent). map (input_found f) ps) is
     ∙ map_same Parameter Input (input_found (extents_found value rs)) (input_of value rs) (input_is value rs) ps
+
+-- an array without a range has no elements
+empty_bounded : IsBounded (pos 0) 0
+unfolding least greatest
+empty_bounded = record { low = (omega (arith, ints), omega (arith, ints)); high = omega (arith, ints) }
+
+or_empty_bounded : (o : Option Extent) → IsBoundedRange o → IsBoundedRange (Some (or_empty o))
+or_empty_bounded None h = empty_bounded
+or_empty_bounded (Some e) h = h
+
+input_bounded : (extents : Name → Option Extent) → AreBounded extents → (p : Parameter) → IsBoundedRange (input_found extents p).extent
+input_bounded extents h p =
+    elim p.sort as (λ s. IsBoundedRange (elim s as (λ s. Input)
+    [ of.Basic b ↦ record { name = p.name.name; basic = b; extent = None } | of.Array b ↦ record { name = p.name.name; basic = b; extent = Some (or_empty (extents p.name.name)) } ]).extent) [
+      | of.Basic b ↦ tt
+      | of.Array b ↦ or_empty_bounded (extents p.name.name) (h p.name.name)
+    ]
+
+pub inputs_bounded : (extents : Name → Option Extent) → AreBounded extents → (ps : List Parameter) → HaveBoundedExtents (map (input_found extents) ps)
+inputs_bounded extents h [] = All-nil (λ (p : Input). IsBoundedRange p.extent)
+inputs_bounded extents h (p ∷ ps) =
+    All-cons (λ (p : Input). IsBoundedRange p.extent) (input_found extents p) (map (input_found extents) ps) (input_bounded extents h p) (inputs_bounded extents h ps)

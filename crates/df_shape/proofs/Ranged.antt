@@ -1,13 +1,15 @@
--- Where all demands on a source hold, its blocks keep the bound on the length of ranges.
-use Rattle.std.proofs.Common.{◌≡◌, ℕ, suc, ℤ, ◌≤◌, Bool, true, false, if◌then◌else◌, nat_le, List, [], ◌∷◌, ◌++◌, map, reverse, refl, sym, ◌∙◌, ap, subst, Option, Some, None}
+-- Where all demands on a source hold, its blocks and its parameters keep the bound on the length of ranges.
+use Rattle.std.proofs.Common.{◌≡◌, ℕ, suc, ℤ, ◌≤◌, Bool, true, false, if◌then◌else◌, nat_le, bytes_eq, List, [], ◌∷◌, ◌++◌, map, reverse, refl, sym, ◌∙◌, ap, subst, Option, Some, None}
 use Rattle.std.specs.List.{All}
+use Rattle.std.specs.Option.{is_some}
 use Rattle.std.specs.Prelude.{flat_map}
 use Rattle.std.proofs.lemmas.Bool.{leb-true}
-use Rattle.std.proofs.lemmas.List.Elements.{All-push, All-nil}
+use Rattle.std.proofs.lemmas.List.Elements.{All-push, All-nil, All-cons}
 use Rattle.std.proofs.lemmas.List.{reverse-reverse, reverse-append}
 use Rattle.df_syntax.specs.declared.tree.Named.{Named}
 use Rattle.df_syntax.specs.declared.tree.Sort.{Sort}
 use Rattle.df_syntax.specs.declared.tree.Sort.TheVariants as of
+use Rattle.df_syntax.specs.declared.tree.Parameter.{Parameter}
 use Rattle.df_syntax.specs.declared.tree.Expr.{Expr}
 use Rattle.df_syntax.specs.declared.tree.Definition.{Definition}
 use Rattle.df_syntax.specs.declared.tree.Node.{roll-Node, out-Node}
@@ -15,6 +17,8 @@ use Rattle.df_syntax.specs.declared.tree.Node.TheOpen.{Node-F}
 use Rattle.df_syntax.specs.declared.program.Range.{Range}
 use Rattle.df_syntax.specs.declared.program.Function.{Function}
 use Rattle.df_syntax.specs.declared.program.Program.{Program}
+use Rattle.df_syntax.specs.declared.piped.Extent.{Extent}
+use Rattle.df_syntax.specs.declared.piped.Input.{Input}
 use Rattle.df_syntax.specs.declared.piped.Body.{Body}
 use Rattle.df_syntax.specs.declared.piped.Body.TheVariants as body
 use Rattle.df_syntax.specs.declared.piped.Block.{Block}
@@ -22,9 +26,10 @@ use Rattle.df_syntax.specs.Trees.{Layer, Opened, layer_of}
 use Rattle.df_syntax.specs.TreeInduction.{Proved, without, tree_induction}
 use Rattle.df_syntax.specs.Besides.{layer_map, beside_rolled}
 use Rattle.df_syntax.specs.Demands.{first_refusal}
-use Rattle.df_syntax.specs.WellShaped.{HasRange, HaveRanges, has_first}
+use Rattle.df_syntax.specs.Meaning.{Name}
+use Rattle.df_syntax.specs.WellShaped.{HasRange, HaveRanges, HasExtent, has_first}
 use Rattle.df_syntax.specs.SourceForms.{Numbers, numbers_of, form, bare, without_parens, is_let, manifest, Recurrence, recurrence_of}
-use Rattle.df_syntax.specs.SourceMeaning.{over}
+use Rattle.df_syntax.specs.SourceMeaning.{over, or_zero, extent_over, extent_of, input_of, inputs_of}
 use Rattle.df_syntax.proofs.FirstRefusals.{begin_holds, rest_holds, head_holds}
 use Rattle.df_shape.specs.declared.answers.ShapeAnswer.{ShapeAnswer}
 use Rattle.df_shape.specs.declared.standing.Standing.{Standing}
@@ -35,7 +40,8 @@ use Rattle.df_shape.specs.Sources as source
 use Rattle.df_shape.specs.Sources.{whole, demands, functions_demands, last_demands, body_demands, body_definitions, with_arrays}
 use Rattle.df_shape.specs.Shaped as shape
 use Rattle.df_shape.specs.Shaped.{Made, Blocks, scalar_body, array_body, recurrence_body, name_standing, define_by, define, result_by, result, each_result, body_blocks, all_defined, blocks_node, blocks_of, main_blocks, program_blocks, shaped}
-use Rattle.df_shape.specs.Bounded.{HasBounds, HaveBounds}
+use Rattle.df_shape.specs.Bounded.{HasBounds, HaveBounds, IsBoundedRange, HaveBoundedExtents}
+use Rattle.df_shape.specs.Entries.{bound_in}
 use Rattle.df_shape.proofs.Opened.{rolled_from}
 use Rattle.df_shape.proofs.Spine.{firsts, blocks_at}
 use Rattle.df_shape.proofs.BoundsKnown.{range_held}
@@ -328,3 +334,72 @@ shaped_short p h =
 pub have_ranges : (p : Program) → first_refusal (demands p) ≡ None → HaveBounds (shaped p).blocks → HaveRanges (shaped p).blocks
 unfolding Holds
 have_ranges p h k = ranges_of (shaped p).blocks k (shaped_short p h)
+
+-- ---- parameters
+
+between_short : (low high : Option ℤ) → is_some low ≡ true → is_some high ≡ true → nat_le (over low high 0 (λ lo n. n)) 4096 ≡ true
+    → (extent_over (or_zero low) (or_zero high)).n ≤ 4096
+between_short (Some lo) (Some hi) l h short = at_most _ short
+between_short None high l h short = absurd (cc)
+between_short (Some lo) None l h short = absurd (cc)
+
+range_short : (numbers : Numbers) (r : Range) → Holds (source.one_range_demands numbers r) → (extent_over (bound_in numbers r.low) (bound_in numbers r.high)).n ≤ 4096
+range_short numbers r h =
+    let after = last_part (manifest_demand numbers r.low) _ h in
+    between_short (manifest numbers r.low) (manifest numbers r.high) (holds _ _ (first_part (manifest_demand numbers r.low) _ h))
+    (holds _ _ (first_part (manifest_demand numbers r.high) _ after)) (holds _ _ (last_part (manifest_demand numbers r.high) _ after))
+
+first_short : (b : Bool) (e o : Extent) → e.n ≤ 4096 → o.n ≤ 4096 → (if b then e else o).n ≤ 4096
+first_short true e o h k = h
+first_short false e o h k = k
+
+extent_short : (numbers : Numbers) (ranges : List Range) → Holds (flat_map (source.one_range_demands numbers) ranges) → (name : Name)
+    → (extent_of (bound_in numbers) ranges name).n ≤ 4096
+extent_short numbers [] h name = at_most 0 refl
+extent_short numbers (r ∷ ranges) h name =
+    first_short (bytes_eq r.name.name name) (extent_over (bound_in numbers r.low) (bound_in numbers r.high)) (extent_of (bound_in numbers) ranges name)
+    (range_short numbers r (first_part (source.one_range_demands numbers r) _ h))
+    (extent_short numbers ranges (last_part (source.one_range_demands numbers r) _ h) name)
+
+abbrev IsShortExtent : Option Extent → Type 0
+IsShortExtent None = Unit {0}
+IsShortExtent (Some extent) = extent.n ≤ 4096
+
+input_short : (numbers : Numbers) (ranges : List Range) → Holds (flat_map (source.one_range_demands numbers) ranges) → (p : Parameter)
+    → IsShortExtent (input_of (bound_in numbers) ranges p).extent
+input_short numbers ranges h p =
+    elim p.sort as (λ s. IsShortExtent (elim s as (λ s. Input) [
+      | of.Basic b ↦ record { name = p.name.name; basic = b; extent = None }
+      | of.Array b ↦ record { name = p.name.name; basic = b; extent = Some (extent_of (bound_in numbers) ranges p.name.name) }
+    ]).extent) [
+      | of.Basic b ↦ tt
+      | of.Array b ↦ extent_short numbers ranges h p.name.name
+    ]
+
+inputs_short : (numbers : Numbers) (ranges : List Range) → Holds (flat_map (source.one_range_demands numbers) ranges) → (ps : List Parameter)
+    → All (λ (p : Input). IsShortExtent p.extent) (inputs_of (bound_in numbers) ranges ps)
+inputs_short numbers ranges h [] = All-nil (λ (p : Input). IsShortExtent p.extent)
+inputs_short numbers ranges h (p ∷ ps) =
+    All-cons (λ (p : Input). IsShortExtent p.extent) (input_of (bound_in numbers) ranges p) (inputs_of (bound_in numbers) ranges ps)
+    (input_short numbers ranges h p) (inputs_short numbers ranges h ps)
+
+parameters_short : (numbers : Numbers) (ranges : List Range) (functions : List Function) → Holds (flat_map (source.one_range_demands numbers) ranges)
+    → All (λ (p : Input). IsShortExtent p.extent) (program_blocks numbers ranges functions).parameters
+parameters_short numbers ranges [] h = All-nil (λ (p : Input). IsShortExtent p.extent)
+parameters_short numbers ranges (main ∷ others) h = inputs_short numbers ranges h main.parameters
+
+-- where all demands on a source hold, its parameters are short
+shaped_parameters_short : (p : Program) → Holds (demands p) → All (λ (p : Input). IsShortExtent p.extent) (shaped p).parameters
+unfolding shaped demands
+shaped_parameters_short p h =
+    parameters_short (numbers_of p) p.ranges (reverse p.functions)
+    (first_part (flat_map (source.one_range_demands (numbers_of p)) p.ranges) _ (last_part (source.constants_demands (λ name. None) p.constants) _ h))
+
+in_extent : (extent : Option Extent) → IsBoundedRange extent → IsShortExtent extent → HasExtent extent
+in_extent None h k = tt
+in_extent (Some extent) h k = record { short = k; low = h.low; high = h.high }
+
+-- and where its bounds are ordinary, its parameters have ranges
+pub have_extents : (p : Program) → first_refusal (demands p) ≡ None → HaveBoundedExtents (shaped p).parameters → All (λ (p : Input). HasExtent p.extent) (shaped p).parameters
+unfolding Holds
+have_extents p h k = λ i d less. in_extent _ (k i d less) (shaped_parameters_short p h i d less)

@@ -3,10 +3,12 @@ use Rattle.std.specs.Prelude.{ℕ, suc, ℤ, pos, ◌≤ℤ◌, ◌+ℤ◌, List
 use Rattle.df_values.specs.Values.{greatest, IsOrdinary}
 use Rattle.df_syntax.specs.declared.tree.Expr.{Expr}
 use Rattle.df_syntax.specs.declared.piped.Extent.{Extent}
+use Rattle.df_syntax.specs.declared.piped.Input.{Input}
 use Rattle.df_syntax.specs.declared.piped.Body.{Body}
 use Rattle.df_syntax.specs.declared.piped.Body.TheVariants as body
 use Rattle.df_syntax.specs.declared.piped.Block.{Block}
 use Rattle.df_syntax.specs.BlockMeaning.{before}
+use Rattle.df_syntax.specs.Meaning.{Name}
 use Rattle.df_syntax.specs.SourceForms.{Numbers, manifest}
 use Rattle.df_syntax.specs.SourceMeaning.{over}
 
@@ -37,3 +39,12 @@ range_of lo n = Some (record { lo = lo; n = n })
 -- the range between two manifest bounds
 abbrev pub range_between : Numbers → Expr → Expr → Option Extent
 range_between numbers low high = over (manifest numbers low) (manifest numbers high) None range_of
+
+-- ---- of parameters
+
+-- the range that each name has
+abbrev pub AreBounded : (Name → Option Extent) → Type 0
+AreBounded extents = (name : Name) → IsBoundedRange (extents name)
+
+abbrev pub HaveBoundedExtents : List Input → Type 0
+HaveBoundedExtents parameters = All (λ (p : Input). IsBoundedRange p.extent) parameters

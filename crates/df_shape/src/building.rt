@@ -1,13 +1,14 @@
 //! Sources as programs in blocks.
-ghost use Rattle.std.specs.Prelude.{◌≡◌, ◌∷◌, [], map, reverse, length, IfOk, None};
+ghost use Rattle.std.specs.Prelude.{◌≡◌, ◌∷◌, [], map, reverse, length, IfOk, None, All};
 ghost use Rattle.df_syntax.specs.Demands.{first_refusal};
-ghost use Rattle.df_syntax.specs.WellShaped.{HaveRanges};
+ghost use Rattle.df_syntax.specs.declared.piped.Input.{Input};
+ghost use Rattle.df_syntax.specs.WellShaped.{HaveRanges, HasExtent};
 ghost use Rattle.df_syntax.specs.SourceForms.{numbers_of};
 ghost use Rattle.df_names.specs.Found.{names_of};
 ghost use Rattle.df_shape.specs.Renamed.{function_renamed};
 ghost use Rattle.df_shape.specs.Shaped.{program_blocks, shaped};
 ghost use Rattle.df_shape.specs.Sources.{demands};
-ghost use Rattle.df_shape.specs.Bounded.{HaveBounds};
+ghost use Rattle.df_shape.specs.Bounded.{HaveBounds, HaveBoundedExtents};
 
 use crate::blocks::{Builder, Building};
 use crate::entries::{add_parameters, constant_names};
@@ -64,6 +65,7 @@ fn main_built(
     requires { names_of numbers.now ≡ numbers_of program.now }
     ensures piped { IfOk result (λ piped. piped ≡ program_blocks (names_of numbers.now) program.now.ranges (main.now ∷ reverse before.now)) }
     ensures bounds { IfOk result (λ piped. HaveBounds piped.blocks) }
+    ensures inputs { IfOk result (λ piped. HaveBoundedExtents piped.parameters) }
 {
     let parameters = main.parameters.as_slice();
     let mut names = constant_names(alloc, numbers, program.constants.as_slice())?;
@@ -100,6 +102,7 @@ pub(crate) fn build(
     ensures piped { IfOk result (λ piped. piped ≡ shaped program.now) }
     ensures bounds { IfOk result (λ piped. HaveBounds piped.blocks) }
     ensures ranges { IfOk result (λ piped. first_refusal (demands program.now) ≡ None → HaveRanges piped.blocks) }
+    ensures extents { IfOk result (λ piped. first_refusal (demands program.now) ≡ None → All (λ (p : Input). HasExtent p.extent) piped.parameters) }
 {
     let functions = program.functions.as_slice();
     if functions.is_empty() {

@@ -2,6 +2,7 @@
 ghost use Rattle.std.specs.Prelude.{◌≡◌, IfOk};
 ghost use Rattle.df_names.specs.Found.{names_of};
 ghost use Rattle.df_syntax.specs.SourceMeaning.{extent_over, inputs_of};
+ghost use Rattle.df_shape.specs.Bounded.{IsBounded, AreBounded, HaveBoundedExtents};
 ghost use Rattle.df_shape.specs.Entries.{bound_in, extents_found, input_found};
 
 use crate::extents::extent;
@@ -27,7 +28,8 @@ fn bound(numbers: &NameMap<Integer>, expr: &Expr) -> Integer
 
 /// The indices of a range.
 fn extent_of(numbers: &NameMap<Integer>, range: &Range) -> Result<Extent, Memory>
-    ensures { IfOk result (λ e. e ≡ extent_over (bound_in (names_of numbers.now) range.now.low) (bound_in (names_of numbers.now) range.now.high)) }
+    ensures extent { IfOk result (λ e. e ≡ extent_over (bound_in (names_of numbers.now) range.now.low) (bound_in (names_of numbers.now) range.now.high)) }
+    ensures bounds { IfOk result (λ e. IsBounded e.lo e.n) }
 {
     let lo = bound(numbers, &range.low);
     let hi = bound(numbers, &range.high);
@@ -40,7 +42,8 @@ fn extents(
     numbers: &NameMap<Integer>,
     ranges: &[Range],
 ) -> Result<NameMap<Extent>, Memory>
-    ensures { IfOk result (λ extents. names_of extents ≡ extents_found (bound_in (names_of numbers.now)) ranges.now) }
+    ensures extents { IfOk result (λ extents. names_of extents ≡ extents_found (bound_in (names_of numbers.now)) ranges.now) }
+    ensures bounds { IfOk result (λ extents. AreBounded (names_of extents)) }
 {
     let mut extents = NameMap::new(alloc);
     for range in ranges {
@@ -82,7 +85,8 @@ pub(crate) fn inputs(
     ranges: &[Range],
     parameters: &[Parameter],
 ) -> Result<Items<Input>, Memory>
-    ensures { IfOk result (λ l. l ≡ inputs_of (bound_in (names_of numbers.now)) ranges.now parameters.now) }
+    ensures inputs { IfOk result (λ l. l ≡ inputs_of (bound_in (names_of numbers.now)) ranges.now parameters.now) }
+    ensures bounds { IfOk result HaveBoundedExtents }
 {
     let extents = extents(alloc, numbers, ranges)?;
     let mut inputs = Items::new(alloc);

@@ -1,6 +1,7 @@
 //! Sources put into blocks.
-ghost use Rattle.std.specs.Prelude.{IfOk};
-ghost use Rattle.df_syntax.specs.WellShaped.{HaveRanges};
+ghost use Rattle.std.specs.Prelude.{IfOk, All};
+ghost use Rattle.df_syntax.specs.declared.piped.Input.{Input};
+ghost use Rattle.df_syntax.specs.WellShaped.{HaveRanges, HasExtent};
 ghost use Rattle.df_shape.specs.Answers.{Shapes};
 
 use crate::answers::ShapeAnswer;
@@ -17,6 +18,7 @@ use std::alloc::Global;
 pub fn shape(alloc: Global, program: &Program) -> Result<Piped, ShapeAnswer>
     ensures answer { Shapes program.now result }
     ensures ranges { IfOk result (λ piped. HaveRanges piped.blocks) }
+    ensures extents { IfOk result (λ piped. All (λ (p : Input). HasExtent p.extent) piped.parameters) }
 {
     let numbers = demand_form(alloc, program)?;
     Ok(build(alloc, &numbers, program)?)

@@ -1,16 +1,18 @@
-use Rattle.df_shape.proofs.Ranged.{have_ranges}
+use Rattle.df_shape.proofs.Ranged.{have_ranges, have_extents}
 use Rattle.std.proofs.Common.{◌≡◌, ℕ, ◌+◌, ◌-◌, List, [], ◌∷◌, take, length, get_or, reverse, Result, Ok, Err, None, IfOk, ap, sym, ◌∙◌, subst, arith, rules}
+use Rattle.std.specs.List.{All}
 use Rattle.std.proofs.lemmas.List.{reverse-append, take_all, nil_from_length}
 use Rattle.df_syntax.specs.declared.program.Function.{Function}
 use Rattle.df_syntax.specs.declared.program.Program.{Program}
+use Rattle.df_syntax.specs.declared.piped.Input.{Input}
 use Rattle.df_syntax.specs.declared.piped.Piped.{Piped}
 use Rattle.df_syntax.specs.Demands.{first_refusal}
-use Rattle.df_syntax.specs.WellShaped.{HaveRanges}
+use Rattle.df_syntax.specs.WellShaped.{HaveRanges, HasExtent}
 use Rattle.df_syntax.specs.SourceForms.{Numbers, numbers_of}
 use Rattle.df_names.specs.Found.{names_of}
 use Rattle.df_shape.specs.Shaped.{program_blocks, shaped}
 use Rattle.df_shape.specs.Sources.{demands}
-use Rattle.df_shape.specs.Bounded.{HaveBounds}
+use Rattle.df_shape.specs.Bounded.{HaveBounds, HaveBoundedExtents}
 use Rattle.df_syntax.proofs.Pushed.{taken}
 use Rattle.df_shape.proofs.building.build.Goals as goal
 
@@ -40,6 +42,12 @@ ranged : {F : Type 0} (p : Program) (r : Result Piped F) → IfOk r (λ piped. p
 ranged p (Ok piped) is h = λ all. subst (λ (q : Piped). HaveRanges q.blocks) (sym is) (have_ranges p all (subst (λ (q : Piped). HaveBounds q.blocks) is h))
 ranged p (Err e) is h = h
 
+extended : {F : Type 0} (p : Program) (r : Result Piped F) → IfOk r (λ piped. piped ≡ shaped p) → IfOk r (λ piped. HaveBoundedExtents piped.parameters)
+    → IfOk r (λ piped. first_refusal (demands p) ≡ None → All (λ (p : Input). HasExtent p.extent) piped.parameters)
+extended p (Ok piped) is h = λ all. subst (λ (q : Piped). All (λ (p : Input). HasExtent p.extent) q.parameters) (sym is)
+    (have_extents p all (subst (λ (q : Piped). HaveBoundedExtents q.parameters) is h))
+extended p (Err e) is h = h
+
 pub returns-then-is_empty-clause-piped : goal.returns-then-is_empty-clause-piped
 unfolding nothing
 returns-then-is_empty-clause-piped c =
@@ -66,3 +74,6 @@ returns-clause-piped c = built c
 
 pub returns-clause-ranges : goal.returns-clause-ranges
 returns-clause-ranges c = ranged c.args.program.now c.main_built.result (built c) c.main_built.ensures.bounds
+
+pub returns-clause-extents : goal.returns-clause-extents
+returns-clause-extents c = extended c.args.program.now c.main_built.result (built c) c.main_built.ensures.inputs
