@@ -1,7 +1,7 @@
-//! The tests of the crates below the commands: what no contract says.
+//! The tests of the crates below the commands: what no contract says, and no case of a command shows.
 //!
-//! Each public function is called once with ample memory, and each text from outside stands here with what is wanted. They
-//! stand apart, since a crate with tests is proved twice; those of the commands stand in a crate of their own.
+//! Each public function that takes memory is called once with ample memory, here or by the cases of the commands
+//! (`command_cases`). They stand apart, since a crate with tests is proved twice.
 #![tactic(auto)]
 
 #[cfg(test)]
@@ -13,8 +13,6 @@ mod changed_celltext;
 #[cfg(test)]
 mod dual_check;
 #[cfg(test)]
-mod grammar;
-#[cfg(test)]
 mod io;
 #[cfg(test)]
 mod iotext;
@@ -23,16 +21,6 @@ mod joined_paths;
 #[cfg(test)]
 mod labels;
 #[cfg(test)]
-mod lexer;
-#[cfg(test)]
 mod machine;
 #[cfg(test)]
-mod meaning;
-#[cfg(test)]
-mod names;
-#[cfg(test)]
-mod syntax;
-#[cfg(test)]
 mod values;
-#[cfg(test)]
-mod wellformed;

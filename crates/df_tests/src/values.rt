@@ -1,102 +1,10 @@
-//! Numbers and integers at the front of a text, operators, spelled values, lists of values, and names.
+//! Texts in pieces, spelled values, lists of values, and names as keys.
 use df_values::bytes::Bytes;
-use df_values::decimals::{leading_integer, leading_number};
-use df_values::kinds::{Op, Rel, Test};
 use df_values::name::Name;
-use df_values::operators::{apply, compare, invert, negate, test};
 use df_values::streams::Streams;
-use df_values::values::{ErrorValue, Integer, Value};
+use df_values::values::{ErrorValue, Value};
 use std::collections::HashMap;
 use std::test::Fail;
-
-const UNDEF: Value = Value::Error(ErrorValue::Undef);
-
-const UNKNOWN: Value = Value::Error(ErrorValue::Unknown);
-
-const POS_OVER: Value = Value::Error(ErrorValue::PosOver);
-
-const NEG_OVER: Value = Value::Error(ErrorValue::NegOver);
-
-const MISS_ELT: Value = Value::Error(ErrorValue::MissElt);
-
-const ZERO_DIVIDE: Value = Value::Error(ErrorValue::ZeroDivide);
-
-#[test]
-fn numbers_at_the_front(rt: HostRuntime) {
-    assert_eq!(rt; leading_number(b"0 1"), Some((0, 1)));
-    assert_eq!(rt;
-        leading_number(b"18446744073709551615"),
-        Some((u64::MAX, 20))
-    );
-    assert_eq!(rt; leading_number(b"18446744073709551616"), None);
-    assert_eq!(rt; leading_number(b"007"), None);
-    assert_eq!(rt; leading_number(b"+7"), None);
-    assert_eq!(rt; leading_number(b""), None);
-}
-
-#[test]
-fn integers_at_the_front(rt: HostRuntime) {
-    assert_eq!(rt; leading_integer(b"-12*true"), Some((-12, 3)));
-    assert_eq!(rt; leading_integer(b"0\n"), Some((0, 1)));
-    assert_eq!(rt; leading_integer(b"-9223372036854775809"), None);
-    assert_eq!(rt; leading_integer(b"9223372036854775808"), None);
-    assert_eq!(rt; leading_integer(b"-0"), None);
-    assert_eq!(rt; leading_integer(b"--1"), None);
-}
-
-#[test]
-fn sums_and_products_past_the_limits(rt: HostRuntime) {
-    let over = apply(Op::Add, Value::Int(Integer::MAX), Value::Int(1));
-    assert_eq!(rt; over, POS_OVER);
-    assert_eq!(rt; apply(Op::Sub, over, Value::Int(1)), UNKNOWN);
-    assert_eq!(rt;
-        apply(Op::Mul, Value::Int(Integer::MIN), Value::Int(-1)),
-        POS_OVER
-    );
-    assert_eq!(rt;
-        apply(Op::Mul, Value::Int(Integer::MIN), POS_OVER),
-        NEG_OVER
-    );
-    assert_eq!(rt;
-        apply(Op::Mul, Value::Int(-7), Value::Int(2)),
-        Value::Int(-14)
-    );
-}
-
-#[test]
-fn quotients(rt: HostRuntime) {
-    let rows = [
-        (Value::Int(Integer::MIN), Value::Int(-1), POS_OVER),
-        (Value::Int(1), Value::Int(0), ZERO_DIVIDE),
-        (POS_OVER, Value::Int(0), ZERO_DIVIDE),
-        (Value::Int(Integer::MIN), POS_OVER, UNKNOWN),
-        (Value::Int(-7), Value::Int(2), Value::Int(-3)),
-        (MISS_ELT, Value::Int(0), UNDEF),
-    ];
-    for (a, b, answer) in rows {
-        assert_eq!(rt; apply(Op::Div, a, b), answer);
-    }
-    assert_eq!(rt;
-        apply(Op::Mod, Value::Int(-7), Value::Int(2)),
-        Value::Int(-1)
-    );
-}
-
-#[test]
-fn other_operators(rt: HostRuntime) {
-    assert_eq!(rt; apply(Op::Min, Value::Int(3), POS_OVER), Value::Int(3));
-    assert_eq!(rt; apply(Op::Max, Value::Int(3), POS_OVER), POS_OVER);
-    assert_eq!(rt; apply(Op::And, Value::Truth(false), UNDEF), UNDEF);
-    assert_eq!(rt;
-        compare(Rel::Lt, Value::Int(3), POS_OVER),
-        Value::Truth(true)
-    );
-    assert_eq!(rt; compare(Rel::Eq, POS_OVER, POS_OVER), UNDEF);
-    assert_eq!(rt; negate(Value::Int(Integer::MIN)), POS_OVER);
-    assert_eq!(rt; invert(Value::Truth(true)), Value::Truth(false));
-    assert_eq!(rt; test(Test::Error, UNKNOWN), Value::Truth(true));
-    assert_eq!(rt; test(Test::Undef, UNKNOWN), Value::Truth(false));
-}
 
 #[test]
 fn pieces_stand_in_order(rt: HostRuntime) -> Result<(), Fail> {

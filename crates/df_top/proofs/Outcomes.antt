@@ -4,16 +4,16 @@ use Rattle.df_io.specs.declared.files.Fault.{Fault}
 use Rattle.df_io.specs.declared.files.Fault.TheVariants as fault
 use Rattle.df_io.specs.Faults.{Rises, last_count}
 use Rattle.df_io.specs.Told.{Holds, GainsAll}
-use Rattle.df_top.specs.Carried.{StandsFor, ended}
-use Rattle.df_top.specs.Causes.{IsAbsent, Answers, Completes}
-use Rattle.df_top.specs.Compiled.{MayDo}
-use Rattle.df_top.specs.Effects.{Effect}
-use Rattle.df_top.specs.Endings.{World, Stands, StandsUsage, Ends}
-use Rattle.df_top.specs.Orders.{Order}
-use Rattle.df_top.specs.Verdicts.{Verdict, Absent, Refused, Accepted, Task, Judges}
-use Rattle.df_top.specs.declared.status.Status.{Status}
-use Rattle.df_top.specs.declared.status.Status.TheVariants as status
-use Rattle.df_top.specs.Laws.{HasOneVerdict}
+use Rattle.df_commands.specs.Carried.{StandsFor, ended}
+use Rattle.df_commands.specs.Causes.{IsAbsent, Answers, Completes}
+use Rattle.df_commands.specs.Compiled.{MayDo}
+use Rattle.df_commands.specs.Effects.{Effect}
+use Rattle.df_commands.specs.Endings.{World, Stands, StandsUsage, Ends}
+use Rattle.df_commands.specs.Orders.{Order}
+use Rattle.df_commands.specs.Verdicts.{Verdict, Absent, Refused, Accepted, Task, Judges}
+use Rattle.df_commands.specs.declared.status.Status.{Status}
+use Rattle.df_commands.specs.declared.status.Status.TheVariants as status
+use Rattle.df_commands.specs.Laws.{HasOneVerdict}
 
 -- ---- a command that was accepted, or refused, or read no further
 

@@ -1,13 +1,13 @@
 -- With which status a call ends, and what stands then.
 use Rattle.std.specs.Prelude.{ℕ, ◌≡◌, ◌⊎◌, List, ◌++◌, take, true, false, Option, Some, None}
 use Rattle.df_io.specs.Told.{Holds}
-use Rattle.df_top.specs.Lines.{usage}
-use Rattle.df_top.specs.Orders.{Order}
-use Rattle.df_top.specs.Verdicts.{Verdict, Absent, Refused, Accepted, Judges}
-use Rattle.df_top.specs.Effects.{Effect, over, PartOf}
-use Rattle.df_top.specs.Compiled.{MayDo}
-use Rattle.df_top.specs.declared.status.Status.{Status}
-use Rattle.df_top.specs.declared.status.Status.TheVariants as status
+use Rattle.df_commands.specs.Lines.{usage}
+use Rattle.df_commands.specs.Orders.{Order}
+use Rattle.df_commands.specs.Verdicts.{Verdict, Absent, Refused, Accepted, Judges}
+use Rattle.df_commands.specs.Effects.{Effect, over, PartOf}
+use Rattle.df_commands.specs.Compiled.{MayDo}
+use Rattle.df_commands.specs.declared.status.Status.{Status}
+use Rattle.df_commands.specs.declared.status.Status.TheVariants as status
 
 -- what the files hold, and what was written to the sink
 pub record World : Type 0 where
@@ -76,6 +76,18 @@ StandsUsage status.ReadFault Told old new = ⊥
 abbrev pub Ends : Option Order → Status → Type 0 → World → World → Type 0
 Ends None ending Told old new = StandsUsage ending Told old new
 Ends (Some order) ending Told old new = (v : Verdict) → Judges order old.holds v → Stands v ending Told old new
+
+-- Where a command was done, stopped or refused, there is a verdict, and what stands is what stands for it.
+pub record IsWitnessed (order : Order) (ending : Status) (Told : Type 0) (old new : World) : Type 0 where
+  pub verdict : Verdict
+  pub judged : Judges order old.holds verdict
+  pub stands : Stands verdict ending Told old new
+
+abbrev pub HasWitness : Option Order → Status → Type 0 → World → World → Type 0
+HasWitness (Some order) status.Done Told old new = IsWitnessed order status.Done Told old new
+HasWitness (Some order) status.Stopped Told old new = IsWitnessed order status.Stopped Told old new
+HasWitness (Some order) status.Refused Told old new = IsWitnessed order status.Refused Told old new
+HasWitness words _ Told old new = Unit {0}
 
 -- What needs no telling by the files: which status words have that are no command, and which they alone have.
 abbrev pub FitsWords : Option Order → Status → Type 0

@@ -1,30 +1,14 @@
-//! The commands: what is read and refused, what is written, and with which status a call ends.
+//! The top call: with which status a command line ends, and what then stands.
 //!
-//! `valflow` is the top call. It reads and judges all texts first (`command`, `reads`, `judge`, `programs` and the readers of texts below
-//! them), then evaluates, or compiles and runs (`planned`), and writes last (`writes`). Its contract says, of the bytes under each name, which status comes
-//! exactly when, and what stands then.
+//! `valflow` takes the words of a command line. `df_commands` reads and judges all texts first and gives a plan; only then are the
+//! files written (`writes`), and the output last. Its contract says, of the bytes under each name, which status comes exactly when,
+//! and what stands then.
 #![tactic(auto)]
 
-mod command;
-pub mod compile;
-mod judge;
-pub mod laws;
-mod meaning;
-mod plan;
-mod planned;
-pub mod program;
-mod programs;
-mod reads;
-mod refusals;
-pub mod report;
-mod scanner;
-mod source;
-mod source_refusals;
 mod status;
-mod stop;
-mod tasks;
 mod top;
 mod writes;
 
+pub use df_commands::report::report;
 pub use status::Status;
 pub use top::valflow;

@@ -1,24 +1,21 @@
 //! The top call.
-ghost use Rattle.std.specs.Prelude.{◌≡◌, ◌⊎◌, map, IsTrue, string_bytes};
+ghost use Rattle.std.specs.Prelude.{◌≡◌, ◌⊎◌, length, map, IsTrue, string_bytes};
 ghost use Rattle.df_io.specs.Faults.{Rises, HasWriteCause, HasSinkCause};
 ghost use Rattle.df_io.specs.declared.files.FileMode.{FileMode};
-ghost use Rattle.df_top.specs.Orders.{order_of};
-ghost use Rattle.df_top.specs.Words.{order_meant};
-ghost use Rattle.df_top.specs.Endings.{Ends, FitsWords, Writes};
+ghost use Rattle.df_commands.specs.Commands.{order_of, texts_of, written_by};
+ghost use Rattle.df_commands.specs.Plans.{order_meant, effect_of};
+ghost use Rattle.df_top.specs.Endings.{Ends, HasWitness, FitsWords, Writes};
 ghost use Rattle.df_top.specs.Causes.{IsAbsent, KeepsCounts, Completes, NoFaults};
 ghost use Rattle.df_top.specs.Carried.{StandsFor, IsCarriedOut, ended};
-ghost use Rattle.df_top.specs.Plans.{effect_of};
 
-use crate::command::{Command, command_of};
-use crate::laws::has_one_verdict;
-use crate::plan::Plan;
-use crate::planned::plan_for;
 use crate::status::Status;
-use crate::stop::Stop;
-use crate::tasks::task_of;
 use crate::writes::write_files;
+use df_commands::command::{Order, order_of};
+use df_commands::laws::has_one_verdict;
+use df_commands::plan::Plan;
+use df_commands::planned::plan_for;
+use df_commands::stop::Stop;
 use df_io::{Fault, FileMode, Files, Sink, write_out};
-use df_values::memory::Memory;
 use std::alloc::Global;
 
 const USAGE: &[u8] = b"usage: valflow COMMAND ARGUMENTS\n";
@@ -64,30 +61,32 @@ fn carry_out<F: Files, K: Sink>(files: &mut F, out: &mut K, plan: &Plan<'_>) -> 
 // Does what a command says, and answers how it ended.
 fn obey<F: Files, K: Sink>(
     alloc: Global,
-    command: Command<'_>,
+    order: Order<'_>,
     files: &mut F,
     out: &mut K,
 ) -> Status
-    requires { F.mode files.old ≡ FileMode.Idle }
+    requires idle { F.mode files.old ≡ FileMode.Idle }
+    requires reads { length order.reads.now ≡ length (texts_of order.command) }
+    requires writes { length order.writes.now ≡ written_by order.command }
     ensures mode { F.mode files.new ≡ FileMode.Idle }
-    ensures stands { IsTrue F.tells → Ends (Some (order_meant command.entry)) result (IsTrue K.tells)
+    ensures stands { IsTrue F.tells → Ends (Some (order_meant order.entry)) result (IsTrue K.tells)
         (record { holds = (F.told files.old).holds; written = K.written out.old })
         (record { holds = (F.told files.new).holds; written = K.written out.new }) }
-    ensures words { FitsWords (Some (order_meant command.entry)) result }
-    ensures writes { IsTrue K.tells → Writes (Some (order_meant command.entry)) result (K.written out.old) (K.written out.new) }
+    ensures witness { IsTrue F.tells → HasWitness (Some (order_meant order.entry)) result (IsTrue K.tells)
+        (record { holds = (F.told files.old).holds; written = K.written out.old })
+        (record { holds = (F.told files.new).holds; written = K.written out.new }) }
+    ensures words { FitsWords (Some (order_meant order.entry)) result }
+    ensures writes { IsTrue K.tells → Writes (Some (order_meant order.entry)) result (K.written out.old) (K.written out.new) }
     ensures read_fault { result ≡ Status.ReadFault → Rises (F.faults files.old).read (F.faults files.new).read
-        ⊎ (IsTrue F.tells × IsAbsent (Some (order_meant command.entry)) (F.told files.old).holds) }
+        ⊎ (IsTrue F.tells × IsAbsent (Some (order_meant order.entry)) (F.told files.old).holds) }
     ensures write_fault { result ≡ Status.WriteFault
         → Rises (F.faults files.old).write (F.faults files.new).write ⊎ Rises (K.faults out.old).count (K.faults out.new).count }
     ensures counts { KeepsCounts (F.faults files.old) (F.faults files.new) }
     ensures out_counts { HasSinkCause ⊥ (K.faults out.old) (K.faults out.new) }
 {
     has_one_verdict();
-    match task_of(alloc, files, command) {
-        Ok(task) => match plan_for(alloc, task) {
-            Ok(plan) => carry_out(files, out, &plan),
-            Err(Memory) => Status::Memory,
-        },
+    match plan_for(alloc, files, order) {
+        Ok(plan) => carry_out(files, out, &plan),
         Err(Stop::Refused(line)) => ended(write_out(out, line.as_slice()), Status::Refused),
         Err(Stop::ReadFault) => Status::ReadFault,
         Err(Stop::Memory) => Status::Memory,
@@ -110,7 +109,15 @@ pub fn valflow<F: Files, K: Sink>(
     ensures stands { IsTrue F.tells → Ends (order_of (map string_bytes words.now.items)) result (IsTrue K.tells)
         (record { holds = (F.told files.old).holds; written = K.written out.old })
         (record { holds = (F.told files.new).holds; written = K.written out.new }) }
+
+    // Where a command was done, stopped or refused, the verdict is at hand.
+    ensures witness { IsTrue F.tells → HasWitness (order_of (map string_bytes words.now.items)) result (IsTrue K.tells)
+        (record { holds = (F.told files.old).holds; written = K.written out.old })
+        (record { holds = (F.told files.new).holds; written = K.written out.new }) }
+
+    // Words that are no command touch no file.
     ensures words { FitsWords (order_of (map string_bytes words.now.items)) result }
+    ensures untouched { order_of (map string_bytes words.now.items) ≡ None → F.faults files.new ≡ F.faults files.old }
     ensures writes { IsTrue K.tells → Writes (order_of (map string_bytes words.now.items)) result (K.written out.old) (K.written out.new) }
 
     // Why a fault comes.
@@ -130,8 +137,8 @@ pub fn valflow<F: Files, K: Sink>(
     ensures out_counts { HasSinkCause ⊥ (K.faults out.old) (K.faults out.new) }
 {
     has_one_verdict();
-    match command_of(words.as_slice()) {
-        Some(command) => obey(alloc, command, files, out),
+    match order_of(words.as_slice()) {
+        Some(order) => obey(alloc, order, files, out),
         None => ended(write_out(out, USAGE), Status::Usage),
     }
 }

@@ -2,10 +2,10 @@
 ghost use Rattle.std.specs.Prelude.{◌≡◌, map, IsTrue, IsErrOf, OnOk, OnErr};
 ghost use Rattle.df_io.specs.Faults.{HasWriteCause};
 ghost use Rattle.df_io.specs.declared.files.FileMode.{FileMode};
-ghost use Rattle.df_top.specs.Effects.{over, PartOf};
-ghost use Rattle.df_top.specs.Plans.{file_of};
+ghost use Rattle.df_commands.specs.Effects.{over, PartOf};
+ghost use Rattle.df_commands.specs.Plans.{file_of};
 
-use crate::plan::NewFile;
+use df_commands::plan::NewFile;
 use df_io::{Fault, FileMode, Files, write_file};
 
 /// Makes each file with its bytes. A refusal leaves the files before it whole, and a prefix of the one at which it came.

@@ -1,0 +1,16 @@
+pub mod Scanning
+pub mod SourceTexts
+pub mod Judging
+pub mod OwnNames
+pub mod Readings
+pub mod Outcomes
+pub mod Additions
+pub mod Faithful
+pub mod ReportLines
+pub mod RunReports
+pub mod ReadyTasks
+pub mod CellReadings
+pub mod DualReadings
+pub mod Buffers
+pub mod ProgramReadings
+pub mod SourcesMeant

@@ -1,0 +1,4 @@
+use Rattle.df_commands.proofs.command.+are_apart.Given as goal
+
+abbrev pub decreases-are_apart : goal.decreases-are_apart
+decreases-are_apart l = length l.names.now

@@ -1,0 +1,56 @@
+-- What is promised of the cells of every program, and of the verdict.
+use Rattle.std.specs.Prelude.{◌≡◌, ℕ, List, Result, Ok, IsTrue, codes}
+use Rattle.df_io.specs.Told.{Holds}
+use Rattle.df_cells.specs.declared.cells.Cell.{Cell}
+use Rattle.df_machine.specs.ThreeCells.{three_cells}
+use Rattle.df_commands.specs.Compiled.{IsFaithful}
+use Rattle.df_commands.specs.Commands.{Order}
+use Rattle.df_commands.specs.Ready.{IsWithin}
+use Rattle.df_commands.specs.Texts.{ReadsCellFile, ReadsDualFile}
+use Rattle.df_commands.specs.Verdicts.{Verdict, Judges}
+use Rattle.df_cells.specs.WellFormed.{WellFormed}
+use Rattle.df_syntax.specs.FreshNames.{names_are_new}
+use Rattle.df_syntax.specs.declared.program.Program.{Program as Tree}
+use Rattle.df_commands.specs.ProgramTexts.{ReadsProgram}
+use Rattle.df_commands.specs.declared.program.Program.{Program}
+
+-- the cells of each program are faithful to it
+abbrev pub AlwaysFaithful : Type 0
+AlwaysFaithful = (program : Program) → IsWithin program → IsFaithful program (three_cells (codes "A") program.elements program.addend)
+
+-- two verdicts on one command and the same files are the same
+abbrev pub HasOneVerdict : Type 0
+HasOneVerdict = (order : Order) (holds : Holds) (v w : Verdict) → Judges order holds v → Judges order holds w → v ≡ w
+
+-- it can't be that there is none
+abbrev pub HasSomeVerdict : Type 0
+HasSomeVerdict = (order : Order) (holds : Holds) → ¬ ((v : Verdict) → ¬ Judges order holds v)
+
+-- the text of a cell file has one reading at most
+abbrev pub CellFilesHaveOneReading : Type 0
+CellFilesHaveOneReading = (text : List ℕ) (one other : Result (List Cell) (List ℕ)) → ReadsCellFile text one → ReadsCellFile text other → one ≡ other
+
+-- there is no text without a reading
+abbrev pub CellFilesHaveReadings : Type 0
+CellFilesHaveReadings = (text : List ℕ) → ¬ ((reading : Result (List Cell) (List ℕ)) → ¬ ReadsCellFile text reading)
+
+-- the text of a dual file has one reading at most for well-formed cells
+abbrev pub DualFilesHaveOneReading : Type 0
+DualFilesHaveOneReading = (cells : List Cell) (text : List ℕ) (one other : Result (List ℕ) (List ℕ)) → WellFormed cells
+    → ReadsDualFile cells text one → ReadsDualFile cells text other → one ≡ other
+
+-- there is no text without a reading
+abbrev pub DualFilesHaveReadings : Type 0
+DualFilesHaveReadings = (cells : List Cell) (text : List ℕ) → WellFormed cells → ¬ ((reading : Result (List ℕ) (List ℕ)) → ¬ ReadsDualFile cells text reading)
+
+-- the text of a source has one reading at most
+abbrev pub ProgramsHaveOneReading : Type 0
+ProgramsHaveOneReading = (text : List ℕ) (one other : Result Tree (List ℕ)) → ReadsProgram text one → ReadsProgram text other → one ≡ other
+
+-- there is no text without a reading
+abbrev pub ProgramsHaveReadings : Type 0
+ProgramsHaveReadings = (text : List ℕ) → ¬ ((reading : Result Tree (List ℕ)) → ¬ ReadsProgram text reading)
+
+-- the names that an accepted source binds in its functions are new where it binds them
+abbrev pub AcceptedSourcesBindNewNames : Type 0
+AcceptedSourcesBindNewNames = (text : List ℕ) (tree : Tree) → ReadsProgram text (Ok tree) → IsTrue (names_are_new tree)

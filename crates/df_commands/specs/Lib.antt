@@ -1,0 +1,16 @@
+pub mod Lines
+pub mod Commands
+pub mod Effects
+pub mod Meanings
+pub mod Scanned
+pub mod Sources
+pub mod Chain
+pub mod Reports
+pub mod ProgramTexts
+pub mod Texts
+pub mod Verdicts
+pub mod Compiled
+pub mod Plans
+pub mod Judged
+pub mod Ready
+pub mod Laws

@@ -1,0 +1,29 @@
+-- What is known of a task whose texts were read.
+use Rattle.std.specs.Prelude.{◌≡◌, ◌≤◌, pos, length, IsTrue}
+use Rattle.df_cells.specs.Schedules.{choices_of}
+use Rattle.df_cells.specs.declared.schedules.Schedule.{Schedule}
+use Rattle.df_inline.specs.Inlined.{inlined}
+use Rattle.df_shape.specs.Shaped.{shaped}
+use Rattle.df_syntax.specs.FreshNames.{names_are_new}
+use Rattle.df_syntax.specs.WellShaped.{HaveRanges}
+use Rattle.df_syntax.specs.declared.piped.Flat.{Flat}
+use Rattle.df_syntax.specs.declared.program.Program.{Program as Tree}
+use Rattle.df_values.specs.Values.{IsOrdinary}
+use Rattle.df_commands.specs.ProgramTexts.{IsAccepted}
+use Rattle.df_commands.specs.declared.program.Program.{Program}
+
+-- the program is within its limits
+pub record IsWithin (program : Program) : Type 0 where
+  pub few : program.elements ≤ 4096
+  pub ordinary : IsOrdinary (pos program.addend)
+
+-- there are no more choices than a schedule may have, its drain counted
+abbrev pub HasFewChoices : Schedule → Type 0
+HasFewChoices schedule = length (choices_of schedule) ≤ 1_001_000_000
+
+-- the source is accepted, and this is its program in blocks, with its calls replaced
+pub record IsFlatOf (tree : Tree) (flat : Flat) : Type 0 where
+  pub accepted : IsAccepted tree
+  pub new : IsTrue (names_are_new tree)
+  pub is : flat ≡ inlined (shaped tree)
+  pub ranges : HaveRanges flat.blocks

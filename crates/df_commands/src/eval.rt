@@ -1,0 +1,106 @@
+//! `eval`: it is told what a source means under its inputs.
+ghost use Rattle.std.specs.Prelude.{◌≡◌, ◌≤◌, length, IfOk, IsErrOf};
+ghost use Rattle.df_syntax.specs.BlockMeaning.{flat_mean};
+ghost use Rattle.df_syntax.specs.SourceMeaning.{input_length, source_inputs, declared};
+ghost use Rattle.df_syntax.specs.WellShaped.{HaveRanges};
+ghost use Rattle.df_values.specs.Inputs.{AreValid};
+ghost use Rattle.df_commands.specs.Meanings.{decls_by};
+ghost use Rattle.df_commands.specs.Ready.{IsFlatOf};
+ghost use Rattle.df_commands.specs.Verdicts.{TellMeaning, JudgesEval};
+ghost use Rattle.df_commands.specs.Judged.{Finds, Settles};
+
+use crate::plan::Plan;
+use crate::programs::{Source, judge_program};
+use crate::runs::judge_input;
+use crate::stop::Stop;
+use df_cells::cells::InputDecl;
+use df_inline::laws::inlining_keeps_the_meaning;
+use df_iotext::printing::print_outputs;
+use df_meaning::eval as evaluate;
+use df_syntax::piped::{Flat, Input, Piped};
+use df_values::memory::Memory;
+use df_values::streams::Streams;
+use sqlite_items::Items;
+use std::alloc::Global;
+
+// As many results as can be numbered.
+const MOST_RESULTS: usize = 4_294_967_294;
+
+// What is declared of a parameter.
+fn decl_by(input: &Input) -> InputDecl
+    ensures { result ≡ record { name = input.now.name; basic = input.now.basic; length = input_length input.now.extent } }
+{
+    let length = match input.extent {
+        None => 1,
+        Some(extent) => extent.n,
+    };
+    InputDecl {
+        name: input.name,
+        basic: input.basic,
+        length,
+    }
+}
+
+// What is declared of each parameter.
+fn decls_by(alloc: Global, inputs: &[Input]) -> Result<Vec<InputDecl>, Memory>
+    ensures { IfOk result (λ decls. decls.items ≡ decls_by inputs.now) }
+{
+    let mut decls = Vec::new(alloc);
+    for input in inputs {
+        decls.push(decl_by(input))?;
+    }
+    Ok(decls)
+}
+
+// A source with its inputs.
+#[derive(Drop)]
+struct Evaluated {
+    source: Source,
+    inputs: Streams,
+}
+
+// Judges the texts in their order.
+fn judged(alloc: Global, source: &[u8], input: &[u8]) -> Result<Evaluated, Stop>
+    requires source { length source.now ≤ 4294967294 }
+    requires input { length input.now ≤ 4294967294 }
+    ensures finds { Finds (λ it. TellMeaning it.source.tree it.inputs.lists) (JudgesEval source.now input.now) result }
+    ensures no_fault { IsErrOf result Stop.ReadFault → ⊥ }
+    ensures flat { IfOk result (λ it. IsFlatOf it.source.tree it.source.flat) }
+    ensures valid { IfOk result (λ it. AreValid (declared (source_inputs it.source.tree)) it.inputs.lists) }
+{
+    let source = judge_program(alloc, source)?;
+    let decls = decls_by(alloc, source.flat.parameters.as_slice())?;
+    let inputs = judge_input(alloc, input, &decls)?;
+    Ok(Evaluated { source, inputs })
+}
+
+// The meaning of a program without functions under some inputs. The only error is want of memory, and more results than can
+// be numbered count as that.
+fn meaning_of(alloc: Global, flat: Flat, inputs: &Streams) -> Result<Streams, Memory>
+    requires { HaveRanges flat.blocks }
+    ensures { IfOk result (λ results. results.lists ≡ flat_mean flat inputs.now.lists) }
+{
+    if flat.results.as_slice().len() > MOST_RESULTS {
+        return Err(Memory);
+    }
+    let piped = Piped {
+        parameters: flat.parameters,
+        blocks: flat.blocks,
+        results: flat.results,
+        functions: Items::new(alloc),
+    };
+    evaluate(alloc, &piped, inputs)
+}
+
+/// Tells what the source means under the inputs, by its program without calls.
+pub fn eval<'a>(alloc: Global, source: &[u8], input: &[u8]) -> Result<Plan<'a>, Stop>
+    requires source { length source.now ≤ 4294967294 }
+    requires input { length input.now ≤ 4294967294 }
+    ensures settles { Settles (JudgesEval source.now input.now) result }
+    ensures no_fault { IsErrOf result Stop.ReadFault → ⊥ }
+{
+    inlining_keeps_the_meaning();
+    let it = judged(alloc, source, input)?;
+    let results = meaning_of(alloc, it.source.flat, &it.inputs)?;
+    Ok(Plan::of_text(alloc, print_outputs(alloc, &results)?, true))
+}

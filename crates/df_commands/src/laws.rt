@@ -1,0 +1,104 @@
+//! What follows from the definitions of the verdict alone: each call does nothing, and its contract is a law.
+ghost use Rattle.df_commands.specs.Laws.{AcceptedSourcesBindNewNames, CellFilesHaveOneReading, CellFilesHaveReadings, DualFilesHaveOneReading, DualFilesHaveReadings, HasOneVerdict, HasSomeVerdict, ProgramsHaveOneReading, ProgramsHaveReadings};
+
+use df_celltext::laws::{has_one_first_wrong_line, is_read_or_wrong, text_tells_the_cells};
+use df_dual_check::laws::{
+    certified_dont_fail, fails_once as flow_fails_once, has_one_wrong_line, others_fail,
+    others_have_wrong_lines, tells_one_flow,
+};
+use df_iotext::laws::{
+    inputs_have_one_reading, inputs_have_readings, schedules_have_one_reading,
+    schedules_have_readings,
+};
+use df_syntax::laws::{
+    text_has_one_first_bad_place, text_has_one_split, text_has_tokens_or_a_bad_place,
+    text_with_tokens_has_no_bad_place, tokens_have_one_answer, tokens_have_some_answer,
+    trees_are_well_built,
+};
+use df_types::laws::accepted_names_are_new;
+use df_wellformed::laws::{fails_once, refuses_all_bad, refuses_only_bad};
+
+/// The text of a cell file is that of well-formed cells, or is refused by one line, and not both.
+pub fn cell_files_have_one_reading()
+    ensures { CellFilesHaveOneReading }
+{
+    text_tells_the_cells();
+    has_one_first_wrong_line();
+    fails_once();
+    refuses_only_bad();
+}
+
+/// The text of a cell file is that of well-formed cells, or is refused.
+pub fn cell_files_have_readings()
+    ensures { CellFilesHaveReadings }
+{
+    is_read_or_wrong();
+    refuses_all_bad();
+}
+
+/// The text of a dual file is that of a flow which certifies the cells, or is refused by one line, and not both.
+pub fn dual_files_have_one_reading()
+    ensures { DualFilesHaveOneReading }
+{
+    tells_one_flow();
+    has_one_wrong_line();
+    flow_fails_once();
+    certified_dont_fail();
+}
+
+/// The text of a dual file is that of a flow which certifies the cells, or is refused.
+pub fn dual_files_have_readings()
+    ensures { DualFilesHaveReadings }
+{
+    others_have_wrong_lines();
+    others_fail();
+}
+
+/// The text of a source is that of one accepted tree, or is refused by one line, and not both.
+pub fn programs_have_one_reading()
+    ensures { ProgramsHaveOneReading }
+{
+    text_has_one_split();
+    text_has_one_first_bad_place();
+    text_with_tokens_has_no_bad_place();
+    tokens_have_one_answer();
+}
+
+/// The text of a source is that of an accepted tree, or is refused.
+pub fn programs_have_readings()
+    ensures { ProgramsHaveReadings }
+{
+    text_has_tokens_or_a_bad_place();
+    tokens_have_some_answer();
+}
+
+/// The names that an accepted source binds in its functions are new where it binds them.
+pub fn accepted_sources_bind_new_names()
+    ensures { AcceptedSourcesBindNewNames }
+{
+    trees_are_well_built();
+    accepted_names_are_new();
+}
+
+/// There is at most one verdict on a command and what the files hold.
+pub fn has_one_verdict()
+    ensures { HasOneVerdict }
+{
+    inputs_have_one_reading();
+    schedules_have_one_reading();
+    cell_files_have_one_reading();
+    dual_files_have_one_reading();
+    programs_have_one_reading();
+    accepted_sources_bind_new_names();
+}
+
+/// There is at least one: it can't be that nothing is the verdict.
+pub fn has_some_verdict()
+    ensures { HasSomeVerdict }
+{
+    inputs_have_readings();
+    schedules_have_readings();
+    cell_files_have_readings();
+    dual_files_have_readings();
+    programs_have_readings();
+}

@@ -1,0 +1,28 @@
+//! The commands: what each reads, what its texts ask for or why they are refused, and what it writes.
+//!
+//! A command is data (`command`): its word, the texts that it reads, how many files it writes. `planned::plan_for` reads the files in
+//! their order (`reads`) and hands the texts to the command's own module, which judges them and gives a plan: the bytes of each file
+//! to be written, and the text of the output. The contract of each says so against the verdict on the texts. Nothing is written here.
+#![tactic(auto)]
+
+mod cell_files;
+mod check;
+pub mod command;
+pub mod compile;
+mod eval;
+mod go;
+pub mod laws;
+pub mod plan;
+pub mod planned;
+pub mod program;
+mod programs;
+mod reads;
+mod refusals;
+pub mod report;
+mod run;
+mod runs;
+mod scanner;
+mod source;
+mod source_refusals;
+pub mod stop;
+mod verify;

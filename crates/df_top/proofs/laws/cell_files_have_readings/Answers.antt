@@ -1,5 +1,0 @@
-use Rattle.df_top.proofs.CellReadings.{some_cell_reading}
-use Rattle.df_top.proofs.laws.cell_files_have_readings.Goals as goal
-
-pub returns : goal.returns
-returns c text = some_cell_reading c.refuses_all_bad.ensures text (c.is_read_or_wrong.ensures text)

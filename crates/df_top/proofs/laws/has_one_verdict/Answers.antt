@@ -1,5 +1,0 @@
-use Rattle.df_top.proofs.Readings.{one_verdict}
-use Rattle.df_top.proofs.laws.has_one_verdict.Goals as goal
-
-pub returns : goal.returns
-returns c = one_verdict c.inputs_have_one_reading.ensures c.schedules_have_one_reading.ensures c.cell_files_have_one_reading.ensures c.dual_files_have_one_reading.ensures c.programs_have_one_reading.ensures c.accepted_sources_bind_new_names.ensures
