@@ -39,11 +39,11 @@ in_header program end = record { behind = _; parts = refl; number = record { par
 pub in_element : (program : Program) (end : List ℕ) → LeadsAfter element_piece (left_element program end) program.addend (left_close end)
 in_element program end = record { behind = _; parts = refl; number = record { parts = refl; ends = refl } }
 
-pub addend_bound : (program : Program) → IsOrdinary (pos program.addend) → program.addend ≤ 2147483647
+pub addend_bound : (program : Program) → IsOrdinary (pos program.addend) → program.addend ≤ 9223372036854775807
 unfolding greatest
 addend_bound program o = omega (arith, ints, o.1)
 
-pub small_addend : (program : Program) → IsOrdinary (pos program.addend) → program.addend < 2 ^ 31
+pub small_addend : (program : Program) → IsOrdinary (pos program.addend) → program.addend < 2 ^ 63
 unfolding greatest
 small_addend program o = omega (arith, ints, o.1)
 
@@ -72,7 +72,7 @@ read_two text m n one two program source p q first second =
     let b = after_header one n two program source.end a.1 source.few q second in
     (a.0, b.0, b.1)
 
-pub read_three : (text : List ℕ) (m n k : ℕ) (one two three : List ℕ) (program : Program) (source : IsSource text program) → m ≤ 4096 → n ≤ 4096 → k ≤ 2147483647
+pub read_three : (text : List ℕ) (m n k : ℕ) (one two three : List ℕ) (program : Program) (source : IsSource text program) → m ≤ 4096 → n ≤ 4096 → k ≤ 9223372036854775807
     → LeadsAfter range_piece text m one → LeadsAfter header_piece one n two → LeadsAfter element_piece two k three
     → (m ≡ program.elements) × (n ≡ program.elements) × (three ≡ left_close source.end)
 read_three text m n k one two three program source p q r first second third =
@@ -82,7 +82,7 @@ read_three text m n k one two three program source p q r first second third =
     (a.0, a.1, b.1)
 
 -- what was read, in a row, is the text of a program
-pub is_source : (text : List ℕ) (n m k : ℕ) (one two three : List ℕ) → n ≤ 4096 → k ≤ 2147483647 → ¬ (n ≡ 0) → m ≡ n
+pub is_source : (text : List ℕ) (n m k : ℕ) (one two three : List ℕ) → n ≤ 4096 → k ≤ 9223372036854775807 → ¬ (n ≡ 0) → m ≡ n
     → LeadsAfter range_piece text n one → LeadsAfter header_piece one m two → LeadsAfter element_piece two k three → EndsAfter close_piece three
     → IsSource text (record { elements = n; addend = k })
 unfolding least greatest

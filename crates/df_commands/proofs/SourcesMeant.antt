@@ -9,7 +9,7 @@ use Rattle.std.proofs.lemmas.List.Elements.{All-map, All-weaker}
 use Rattle.std.proofs.lemmas.List.Sums.{AllPass-from_list_all, list_all-from_AllPass}
 use Rattle.std.proofs.lemmas.Option.{slice_get-map}
 use Rattle.std.proofs.lemmas.Slice.Eq.{bytes_eq-Decides}
-use Rattle.df_values.specs.Inputs.{AreValid}
+use Rattle.df_values.specs.Inputs.{AreValid, declared, input_length}
 use Rattle.df_values.specs.declared.values.Value.{Value}
 use Rattle.df_cells.specs.Cells.{declaration_of}
 use Rattle.df_cells.specs.declared.cells.InputDecl.{InputDecl}
@@ -19,14 +19,14 @@ use Rattle.df_shape.proofs.MeaningKept.{inputs_are, meaning_kept}
 use Rattle.df_shape.specs.Shaped.{shaped}
 use Rattle.df_syntax.specs.BlockMeaning.{mean, flat_mean}
 use Rattle.df_syntax.specs.FreshNames.{Taken, also, is_new, parameters_fresh, function_fresh, declared_names, names_are_new}
-use Rattle.df_syntax.specs.SourceMeaning.{declared, input_of, inputs_of, input_length, bound_value, main_inputs, source_inputs, source_mean}
+use Rattle.df_syntax.specs.SourceMeaning.{input_of, inputs_of, bound_value, main_inputs, source_inputs, source_mean}
 use Rattle.df_syntax.specs.SourceForms.{Constants, constants_of}
 use Rattle.df_syntax.specs.WellShaped.{HasRange, HaveRanges}
 use Rattle.df_syntax.specs.declared.piped.Block.{Block}
 use Rattle.df_syntax.specs.declared.piped.Body.{Body}
 use Rattle.df_syntax.specs.declared.piped.Body.TheVariants as body
 use Rattle.df_syntax.specs.declared.piped.Flat.{Flat}
-use Rattle.df_syntax.specs.declared.piped.Input.{Input}
+use Rattle.df_values.specs.declared.inputs.Input.{Input}
 use Rattle.df_syntax.specs.declared.piped.Piped.{Piped}
 use Rattle.df_syntax.specs.declared.program.Function.{Function}
 use Rattle.df_syntax.specs.declared.program.Program.{Program as Tree}

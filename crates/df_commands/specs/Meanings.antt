@@ -7,11 +7,10 @@ use Rattle.df_values.specs.declared.values.Basic.TheVariants.{Integer}
 use Rattle.df_values.specs.declared.kinds.Op.TheVariants.{Add}
 use Rattle.df_values.specs.Operators.{element_at}
 use Rattle.df_values.specs.Tables.{answer}
-use Rattle.df_values.specs.Inputs.{Declaration}
+use Rattle.df_values.specs.Inputs.{Declaration, input_length}
 use Rattle.df_cells.specs.declared.cells.InputDecl.{InputDecl}
 use Rattle.df_cells.specs.Cells.{declaration_of}
-use Rattle.df_syntax.specs.declared.piped.Input.{Input}
-use Rattle.df_syntax.specs.SourceMeaning.{input_length}
+use Rattle.df_values.specs.declared.inputs.Input.{Input}
 use Rattle.df_commands.specs.declared.program.Program.{Program}
 
 -- what is declared of each parameter: its name, its type and how many values it has

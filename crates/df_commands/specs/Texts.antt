@@ -57,6 +57,7 @@ rule_word rule.Control = codes "control"
 rule_word rule.Out = codes "out"
 rule_word rule.Loop = codes "loop"
 rule_word rule.Buffer = codes "buffer"
+rule_word rule.Load = codes "load"
 
 -- the text is that of no list of cells, and this is its first wrong line
 pub record IsWrongText (text line : List ℕ) : Type 0 where

@@ -1,9 +1,9 @@
 //! `eval`: it is told what a source means under its inputs.
 ghost use Rattle.std.specs.Prelude.{◌≡◌, ◌≤◌, length, IfOk, IsErrOf};
 ghost use Rattle.df_syntax.specs.BlockMeaning.{flat_mean};
-ghost use Rattle.df_syntax.specs.SourceMeaning.{input_length, source_inputs, declared};
+ghost use Rattle.df_syntax.specs.SourceMeaning.{source_inputs};
 ghost use Rattle.df_syntax.specs.WellShaped.{HaveRanges};
-ghost use Rattle.df_values.specs.Inputs.{AreValid};
+ghost use Rattle.df_values.specs.Inputs.{AreValid, input_length, declared};
 ghost use Rattle.df_commands.specs.Meanings.{decls_by};
 ghost use Rattle.df_commands.specs.Ready.{IsFlatOf};
 ghost use Rattle.df_commands.specs.Verdicts.{TellMeaning, JudgesEval};
@@ -17,7 +17,8 @@ use df_cells::cells::InputDecl;
 use df_inline::laws::inlining_keeps_the_meaning;
 use df_iotext::printing::print_outputs;
 use df_meaning::eval as evaluate;
-use df_syntax::piped::{Flat, Input, Piped};
+use df_syntax::piped::{Flat, Piped};
+use df_values::inputs::Input;
 use df_values::memory::Memory;
 use df_values::streams::Streams;
 use sqlite_items::Items;

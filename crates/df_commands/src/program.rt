@@ -6,5 +6,5 @@ pub struct Program {
     /// How many elements the array has, from 1 to 4,096.
     pub elements: u32,
     /// What is added to each, from 0 to the greatest integer.
-    pub addend: u32,
+    pub addend: u64,
 }

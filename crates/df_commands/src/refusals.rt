@@ -56,6 +56,7 @@ fn rule_word(rule: Rule) -> &'static str
         Rule::Out => "out",
         Rule::Loop => "loop",
         Rule::Buffer => "buffer",
+        Rule::Load => "load",
     }
 }
 

@@ -5,6 +5,7 @@ ghost use Rattle.df_commands.specs.Sources.{IsSource};
 
 use crate::program::Program;
 use crate::scanner::Scanner;
+use df_values::values::Integer;
 
 const RANGE: &[u8] = b"range A [1, ";
 
@@ -16,7 +17,7 @@ const CLOSE: &[u8] = b" endall endfun";
 
 const MOST_ELEMENTS: u64 = 4096;
 
-const GREATEST_ADDEND: u64 = 2_147_483_647;
+const GREATEST_ADDEND: u64 = Integer::MAX as u64;
 
 /// The program of a text of two lines, the last line feed of which may be missing:
 ///
@@ -51,6 +52,6 @@ pub fn read_source(text: &[u8]) -> Option<Program>
     }
     Some(Program {
         elements: elements as u32,
-        addend: addend as u32,
+        addend,
     })
 }

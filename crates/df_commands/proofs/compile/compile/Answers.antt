@@ -1,4 +1,4 @@
-use Rattle.std.proofs.Common.{◌≡◌, ◌++◌, ◌∷◌, [], ◌∙◌, sym, ap, subst, rules, codes, refl, w32, arith}
+use Rattle.std.proofs.Common.{◌≡◌, ◌++◌, ◌∷◌, [], ◌∙◌, sym, ap, subst, rules, codes, refl, w64, arith}
 use Rattle.std.proofs.lemmas.Int.{to_z_pos}
 use Rattle.df_commands.proofs.SourceTexts.{small_addend}
 use Rattle.df_values.specs.Values.{least, greatest}
@@ -17,7 +17,7 @@ same_cells c =
     ∙ ap (λ before. before ++ c.in_ok-cell_to-3.field-0 ∷ []) (c.in_ok-push-2.ensures.ok
     ∙ ap (λ before. before ++ c.in_ok-cell_to-2.field-0 ∷ []) (c.in_ok-push.ensures.ok
     ∙ ap (λ before. before ++ c.in_ok-cell_to.field-0 ∷ []) c.new-cells.ensures))
-    ∙ rw (c.in_ok-cell_to.ensures, c.in_ok-cell_to-2.ensures, c.in_ok-cell_to-3.ensures, c.new.ensures, to_z_pos w32 c.args.program.addend (small_addend c.args.program c.requires.ordinary)) refl
+    ∙ rw (c.in_ok-cell_to.ensures, c.in_ok-cell_to-2.ensures, c.in_ok-cell_to-3.ensures, c.new.ensures, to_z_pos w64 c.args.program.addend (small_addend c.args.program c.requires.ordinary)) refl
 
 pub returns : goal.returns
 returns c =
