@@ -4,7 +4,7 @@ use borrow.Author.Count.{below_more}
 use Rattle.std.proofs.lemmas.List.{get_or-take, get_or_default, length-take-le}
 use Rattle.df_syntax.specs.declared.program.Function.{Function}
 use Rattle.df_syntax.specs.Meaning.{Name}
-use Rattle.df_inline.specs.Bodies.{Finds}
+use Rattle.df_inline.specs.Lowered.{Finds}
 use Rattle.df_inline.specs.Tables.{entry_size, entry_place, NoneFrom, IsLastAt, IsLast}
 use Rattle.df_inline.specs.declared.size.Size.{Size}
 use Rattle.df_inline.specs.declared.table.Entry.{Entry}

@@ -5,23 +5,23 @@ use Rattle.std.proofs.lemmas.List.{reverse-append}
 use Rattle.std.proofs.lemmas.Option.{slice_get_read}
 use Rattle.df_syntax.specs.declared.program.Function.{Function}
 use Rattle.df_syntax.specs.Meaning.{Name}
-use Rattle.df_inline.specs.Inlined.{expr_inlined, only_body, replacement}
-use Rattle.df_inline.specs.Bodies.{IsBodyAt, Finds}
+use Rattle.df_flattened.specs.Flattened.{flatten, only_body, bodies}
+use Rattle.df_inline.specs.Lowered.{IsBodyAt, Finds}
 use Rattle.df_syntax.proofs.Pushed.{taken}
 
 -- among the first n functions
 abbrev pub Among : List Function → ℕ → Name → Option ℕ → Type 0
-Among functions n name None = replacement (reverse (take n functions)) name ≡ None
-Among functions n name (Some place) = (place < n) × IsBodyAt functions place (replacement (reverse (take n functions)) name)
+Among functions n name None = bodies (reverse (take n functions)) name ≡ None
+Among functions n name (Some place) = (place < n) × IsBodyAt functions place (bodies (reverse (take n functions)) name)
 
 pub grown : (fs : List Function) (n : ℕ) (f : Function) → n < length fs → f ≡ get_or fs n f → reverse (take (n + 1) fs) ≡ f ∷ reverse (take n fs)
 grown fs n f h is = ap reverse (taken fs n f h is) ∙ reverse-append (take n fs) (f ∷ [])
 
 step : (fs : List Function) (n : ℕ) (f : Function) (name : Name) (b : Bool) → n < length fs → f ≡ get_or fs n f → bytes_eq f.name.name name ≡ b
-    → replacement (reverse (take (n + 1) fs)) name ≡ (if b then only_body (expr_inlined (replacement (reverse (take n fs)))) f.parameters f.values else replacement (reverse (take n fs)) name)
+    → bodies (reverse (take (n + 1) fs)) name ≡ (if b then only_body (flatten (bodies (reverse (take n fs)))) f.parameters f.values else bodies (reverse (take n fs)) name)
 step fs n f name b h is same =
-    ap (λ l. replacement l name) (grown fs n f h is)
-    ∙ ap (λ b. if b then only_body (expr_inlined (replacement (reverse (take n fs)))) f.parameters f.values else replacement (reverse (take n fs)) name) same
+    ap (λ l. bodies l name) (grown fs n f h is)
+    ∙ ap (λ b. if b then only_body (flatten (bodies (reverse (take n fs)))) f.parameters f.values else bodies (reverse (take n fs)) name) same
 
 pub hit : (fs : List Function) (n : ℕ) (f : Function) (name : Name) → n < length fs → f ≡ get_or fs n f → bytes_eq f.name.name name ≡ true → Among fs (n + 1) name (Some n)
 hit fs n f name h is same = (omega arith, record { function = f; at = slice_get_read fs (length fs) n f refl h is; gives = step fs n f name true h is same })
@@ -34,6 +34,6 @@ missed fs n f name (Some place) h is same p =
     (omega (arith, less), record { function = p.1.function; at = p.1.at; gives = step fs n f name false h is same ∙ p.1.gives })
 
 pub among_all : (fs : List Function) (name : Name) (found : Option ℕ) → Among fs (length fs) name found → Finds fs name found
-among_all fs name None p = ap (λ l. replacement (reverse l) name) (sym (take-length fs)) ∙ p
+among_all fs name None p = ap (λ l. bodies (reverse l) name) (sym (take-length fs)) ∙ p
 among_all fs name (Some place) p =
-    (p.0, record { function = p.1.function; at = p.1.at; gives = ap (λ l. replacement (reverse l) name) (sym (take-length fs)) ∙ p.1.gives })
+    (p.0, record { function = p.1.function; at = p.1.at; gives = ap (λ l. bodies (reverse l) name) (sym (take-length fs)) ∙ p.1.gives })

@@ -1,12 +1,10 @@
-pub mod Kept
-pub mod Programs
-pub mod Forms
 pub mod Saturated
 pub mod SizeForms
 pub mod TableReads
 pub mod Latest
-pub mod SizesKept
-pub mod ProgramSizes
 pub mod Known
-pub mod FoldsAgree
-pub mod CallsReplaced
+pub mod Shadowing
+pub mod Looks
+pub mod Forms
+pub mod Steps
+pub mod Bound

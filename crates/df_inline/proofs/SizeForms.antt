@@ -130,7 +130,3 @@ array of_call e at value is = sized of_call e (Node-F.Array at value) (is ∙ sy
 pub updated : (of_call : Name → Size) (e : Expr) (name : Name) (at : Expr) (value : Expr) → e.node ≡ n.Update name at value
     → expr_size of_call e ≡ one_more (inside (both (expr_size of_call at) (expr_size of_call value)))
 updated of_call e name at value is = sized of_call e (Node-F.Update name at value) (is ∙ sym (n.rolls-Update name at value))
-
-pub was_replaced : (of_call : Name → Size) (e : Expr) (parameters : List Parameter) (arguments : List Expr) (body : Expr) → e.node ≡ n.Replaced parameters arguments body
-    → expr_size of_call e ≡ one_more (inside (both (beside (map (expr_size of_call) arguments)) (expr_size of_call body)))
-was_replaced of_call e parameters arguments body is = sized of_call e (Node-F.Replaced parameters arguments body) (is ∙ sym (n.rolls-Replaced parameters arguments body))

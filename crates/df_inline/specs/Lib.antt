@@ -1,7 +1,7 @@
-pub mod Inlined
-pub mod Bodies
 pub mod Sizes
-pub mod Answers
-pub mod Counts
 pub mod Tables
-pub mod Covered
+pub mod Counts
+pub mod Answers
+pub mod Bindings
+pub mod Parts
+pub mod Lowered

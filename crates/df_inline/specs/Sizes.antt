@@ -10,7 +10,6 @@ use Rattle.df_syntax.specs.declared.piped.Body.{Body}
 use Rattle.df_syntax.specs.declared.piped.Body.TheVariants as body
 use Rattle.df_syntax.specs.declared.piped.Block.{Block}
 use Rattle.df_syntax.specs.declared.piped.Piped.{Piped}
-use Rattle.df_syntax.specs.declared.piped.Flat.{Flat}
 use Rattle.df_syntax.specs.Trees.{Layer, fold_tree}
 use Rattle.df_syntax.specs.WellBuilt.{error_nesting, sort_nesting}
 use Rattle.df_syntax.specs.Meaning.{Name}
@@ -81,7 +80,6 @@ node_size of_call (Node-F.For definitions test assigns last) =
     one_more (inside (both (beside (definitions_size definitions)) (inside (both test (both (beside (assigns_size assigns)) last)))))
 node_size of_call (Node-F.Array at value) = one_more (inside (both at value))
 node_size of_call (Node-F.Update name at value) = one_more (inside (both at value))
-node_size of_call (Node-F.Replaced parameters arguments body) = one_more (inside (both (beside arguments) body))
 
 unfoldable pub expr_size : (Name → Size) → Expr → Size
 expr_size of_call = fold_tree Size (λ place node. node_size of_call node)
@@ -112,7 +110,3 @@ blocks_size of_call blocks = beside (map (λ (b : Block). body_size of_call b.bo
 
 unfoldable pub piped_size : Piped → Size
 piped_size p = blocks_size (call_size (reverse p.functions)) p.blocks
-
--- a program without functions: a call that is left counts its arguments alone
-unfoldable pub flat_size : Flat → Size
-flat_size p = blocks_size (λ name. nothing) p.blocks

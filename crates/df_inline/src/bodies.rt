@@ -1,12 +1,12 @@
-//! What stands in place of calls.
+//! The bodies of functions.
 ghost use Rattle.std.specs.Prelude.{◌≡◌, IfOk, reverse};
-ghost use Rattle.df_inline.specs.Inlined.{replacement};
-ghost use Rattle.df_inline.specs.Bodies.{Finds};
+ghost use Rattle.df_flattened.specs.Flattened.{bodies};
+ghost use Rattle.df_inline.specs.Lowered.{Finds, at_depth};
 ghost use Rattle.df_inline.specs.Tables.{Knows};
 
 use crate::copier::Copier;
-use crate::replacement::Replacement;
 use crate::table::Table;
+use df_core::terms::Term;
 use df_syntax::program::Function;
 use df_values::memory::Memory;
 use df_values::name::Name;
@@ -42,15 +42,17 @@ fn find(table: &Table, functions: &[Function], name: &Name) -> Option<usize>
     }
 }
 
-/// What stands in place of a call of one of the functions, of which each may call those before it.
+/// The body of one of the functions behind so many locals, with its arguments as the locals from there on. Each function may
+/// call those before it.
 pub(crate) fn body_of(
     alloc: Global,
     table: &Table,
     functions: &[Function],
     name: &Name,
-) -> Result<Option<Replacement>, Memory>
+    depth: usize,
+) -> Result<Option<Term>, Memory>
     requires { Knows functions.now table.now }
-    ensures { IfOk result (λ r. r ≡ replacement (reverse functions.now) name.now) }
+    ensures { IfOk result (λ body. body ≡ at_depth (bodies (reverse functions.now) name.now) depth) }
 {
     match find(table, functions, name) {
         None => Ok(None),
@@ -60,9 +62,14 @@ pub(crate) fn body_of(
                 alloc,
                 table,
                 functions: &functions[..place],
+                index: None,
                 body: body_of,
             };
-            Ok(copier.only(function.parameters.as_slice(), function.values.as_slice())?)
+            Ok(copier.function(
+                function.parameters.as_slice(),
+                function.values.as_slice(),
+                depth,
+            )?)
         }
     }
 }

@@ -1,18 +1,59 @@
-//! Expressions copied, with their calls replaced.
-ghost use Rattle.std.specs.Prelude.{◌≡◌, IfOk, map, reverse, Option};
-ghost use Rattle.df_inline.specs.Inlined.{expr_inlined, replacement, replaced, links_inlined, arms_inlined, definitions_inlined, assigns_inlined};
-ghost use Rattle.df_inline.specs.Bodies.{Gives};
+//! Expressions as terms.
+ghost use Rattle.std.specs.Prelude.{◌≡◌, ◌≤◌, IfOk, map, reverse, take, length, Option, [], fold};
+ghost use Rattle.df_flattened.specs.Flattened.{flatten, bodies, named, accessed, subscript, undef, arguments_of, define, let_of, pair, called};
+ghost use Rattle.df_syntax.specs.WellShaped.{look_of};
+ghost use Rattle.df_core.specs.declared.terms.Term.TheVariants as term;
+ghost use Rattle.df_inline.specs.Bindings.{scope_of};
+ghost use Rattle.df_inline.specs.Lowered.{Gives, step_of, branch_of, besides, listed, behind, only_of};
 
-use crate::replacement::Replacement;
+use crate::depth::Depth;
+use crate::names::{Binding, Names};
+use crate::subscripts::{manifest, offset, ordinary};
 use crate::table::Table;
+use df_core::terms::{Branch, Offset, Step, Term};
+use df_flattened::standing::Standing;
 use df_syntax::program::Function;
-use df_syntax::tree::{Arm, Assign, Definition, Expr, Link, Node};
+use df_syntax::tree::{Arm, Definition, Expr, Link, Node};
+use df_values::kinds::{Binary, Unary};
 use df_values::memory::Memory;
 use df_values::name::Name;
+use df_values::values::{ErrorValue, Value};
 use sqlite_items::{Boxed, Items};
 use std::alloc::Global;
 
-/// What copies expressions and puts bodies in place of calls.
+/// What stands for nothing.
+fn nothing() -> Term
+    ensures { result ≡ undef }
+{
+    Term::Constant {
+        value: Value::Error(ErrorValue::Undef),
+    }
+}
+
+/// The term of a name.
+fn named(standing: Option<Standing>) -> Term
+    ensures { result ≡ named standing }
+{
+    match standing {
+        Some(Standing::Local(number)) => Term::Local { number },
+        Some(Standing::Index) => Term::Index,
+        Some(Standing::Outer(number)) => Term::Outer { number },
+        _ => nothing(),
+    }
+}
+
+/// The term of an element of an array.
+fn accessed(standing: Option<Standing>, at: Option<Offset>) -> Term
+    ensures { result ≡ accessed standing at }
+{
+    match (standing, at) {
+        (Some(Standing::Elements(array)), Some(offset)) => Term::Element { array, offset },
+        (Some(Standing::Own), _) => Term::Previous,
+        _ => nothing(),
+    }
+}
+
+/// What makes terms of expressions, with bodies in place of calls.
 #[derive(Clone, Copy)]
 pub(crate) struct Copier<'a, F> {
     /// Where memory comes from.
@@ -21,281 +62,276 @@ pub(crate) struct Copier<'a, F> {
     pub table: &'a Table,
     /// The functions that may be called.
     pub functions: &'a [Function],
-    /// What stands in place of a call of one of so many functions.
+    /// The index of the block.
+    pub index: Option<Name>,
+    /// The body that stands in place of a call of one of so many functions, at a depth.
     pub body: F,
 }
 
-impl<F: Fn(Global, &Table, &[Function], &Name) -> Result<Option<Replacement>, Memory>> Copier<
+impl<F> Copier<'_, F> {
+    /// The offset at which an array is taken.
+    fn subscript(&self, at: &Expr) -> Result<Option<Offset>, Memory>
+        ensures { IfOk result (λ c. c ≡ subscript self.now.index (look_of at.now)) }
+    {
+        match self.index {
+            None => Ok(ordinary(manifest(at))),
+            Some(index) => Ok(offset(at, &index)?),
+        }
+    }
+
+    /// Two terms, joined.
+    fn pair(&self, first: Term, with: Binary, operand: Term) -> Result<Term, Memory>
+        ensures { IfOk result (λ t. t ≡ pair first with operand) }
+    {
+        let first = Boxed::new(self.alloc, first)?;
+        let mut rest = Items::new(self.alloc);
+        rest.push(Step { with, operand })?;
+        Ok(Term::Chain { first, rest })
+    }
+
+    /// A term, changed.
+    fn change(&self, how: Unary, of: Term) -> Result<Term, Memory>
+        ensures { IfOk result (λ t. t ≡ term.Change how of) }
+    {
+        let of = Boxed::new(self.alloc, of)?;
+        Ok(Term::Change { how, of })
+    }
+
+    /// A value or a body behind definitions.
+    fn behind(&self, definitions: Items<Term>, value: Option<Term>) -> Result<Term, Memory>
+        ensures { IfOk result (λ t. t ≡ behind definitions value) }
+    {
+        match value {
+            None => Ok(nothing()),
+            Some(value) => {
+                let value = Boxed::new(self.alloc, value)?;
+                Ok(Term::Let { definitions, value })
+            }
+        }
+    }
+}
+
+impl<F: Fn(Global, &Table, &[Function], &Name, usize) -> Result<Option<Term>, Memory>> Copier<
     '_,
     F,
 > {
-    /// An expression.
-    #[cycle(copy)]
-    pub fn expr(&self, expr: &Expr) -> Result<Expr, Memory>
-        requires { Gives self.now.functions.now self.now.table.now (F.pre self.now.body) (F.post self.now.body) }
-        ensures { IfOk result (λ e. e ≡ expr_inlined (replacement (reverse self.now.functions.now)) expr.now) }
-    {
-        let node = self.node(expr)?;
-        Ok(Expr {
-            place: expr.place,
-            node: Boxed::new(self.alloc, node)?,
-        })
-    }
-
-    /// The node of an expression.
+    /// An expression, under names and behind so many locals.
     #[cycle(copy)]
     #[tactic(auto, using(crate::proofs::Forms::forms))]
-    fn node(&self, expr: &Expr) -> Result<Node, Memory>
+    pub fn term(&self, expr: &Expr, names: &mut Names, depth: &mut Depth) -> Result<Term, Memory>
         requires { Gives self.now.functions.now self.now.table.now (F.pre self.now.body) (F.post self.now.body) }
-        ensures { IfOk result (λ n. n ≡ (expr_inlined (replacement (reverse self.now.functions.now)) expr.now).node) }
+        ensures value { IfOk result (λ t. t ≡ flatten (bodies (reverse self.now.functions.now)) expr.now (scope_of names.old depth.old self.now.index)) }
+        ensures kept { IfOk result (λ _. names.new ≡ names.old) }
+        ensures same_depth { IfOk result (λ _. depth.new ≡ depth.old) }
     {
         match expr.node.get() {
-            Node::Number { value } => Ok(Node::Number { value: *value }),
-            Node::Truth { value } => Ok(Node::Truth { value: *value }),
-            Node::Error { value, basic } => Ok(Node::Error {
-                value: *value,
-                basic: *basic,
+            Node::Number { value } => Ok(Term::Constant {
+                value: Value::Int(*value),
             }),
-            Node::Name { name } => Ok(Node::Name { name: *name }),
+            Node::Truth { value } => Ok(Term::Constant {
+                value: Value::Truth(*value),
+            }),
+            Node::Error { value, .. } => Ok(Term::Constant {
+                value: Value::Error(*value),
+            }),
+            Node::Name { name } => Ok(named(names.get(name))),
             Node::Access { name, at } => {
-                let at = self.expr(at)?;
-                Ok(Node::Access { name: *name, at })
+                let at = self.subscript(at)?;
+                Ok(accessed(names.get(name), at))
             }
-            Node::Call { name, arguments } => Ok(self.call(name, arguments.as_slice())?),
+            Node::Call { name, arguments } => {
+                Ok(self.called(name, arguments.as_slice(), names, depth)?)
+            }
             Node::Chain { first, rest } => {
-                let first = self.expr(first)?;
-                let rest = self.links(rest.as_slice())?;
-                Ok(Node::Chain { first, rest })
+                let first = self.term(first, names, depth)?;
+                let rest = self.steps(rest.as_slice(), names, depth)?;
+                let first = Boxed::new(self.alloc, first)?;
+                Ok(Term::Chain { first, rest })
             }
             Node::Compare { rel, left, right } => {
-                let left = self.expr(left)?;
-                let right = self.expr(right)?;
-                Ok(Node::Compare {
-                    rel: *rel,
-                    left,
-                    right,
-                })
-            }
-            Node::Negate { of } => {
-                let of = self.expr(of)?;
-                Ok(Node::Negate { of })
-            }
-            Node::Invert { of } => {
-                let of = self.expr(of)?;
-                Ok(Node::Invert { of })
-            }
-            Node::Parens { of } => {
-                let of = self.expr(of)?;
-                Ok(Node::Parens { of })
-            }
-            Node::Test { test, of } => {
-                let of = self.expr(of)?;
-                Ok(Node::Test { test: *test, of })
+                let left = self.term(left, names, depth)?;
+                let right = self.term(right, names, depth)?;
+                Ok(self.pair(left, Binary::Comparison(*rel), right)?)
             }
             Node::TwoPlace { op, left, right } => {
-                let left = self.expr(left)?;
-                let right = self.expr(right)?;
-                Ok(Node::TwoPlace {
-                    op: *op,
-                    left,
-                    right,
-                })
+                let left = self.term(left, names, depth)?;
+                let right = self.term(right, names, depth)?;
+                Ok(self.pair(left, Binary::Operation(*op), right)?)
             }
+            Node::Negate { of } => {
+                let of = self.term(of, names, depth)?;
+                Ok(self.change(Unary::Negation, of)?)
+            }
+            Node::Invert { of } => {
+                let of = self.term(of, names, depth)?;
+                Ok(self.change(Unary::Inversion, of)?)
+            }
+            Node::Test { test, of } => {
+                let of = self.term(of, names, depth)?;
+                Ok(self.change(Unary::Inquiry(*test), of)?)
+            }
+            Node::Parens { of } => Ok(self.term(of, names, depth)?),
             Node::If { arms, last } => {
-                let arms = self.arms(arms.as_slice())?;
-                let last = self.expr(last)?;
-                Ok(Node::If { arms, last })
+                let branches = self.branches(arms.as_slice(), names, depth)?;
+                let last = self.term(last, names, depth)?;
+                let last = Boxed::new(self.alloc, last)?;
+                Ok(Term::If { branches, last })
             }
             Node::Let {
                 definitions,
                 values,
             } => {
-                let definitions = self.definitions(definitions.as_slice())?;
-                let values = self.exprs(values.as_slice())?;
-                Ok(Node::Let {
-                    definitions,
-                    values,
-                })
+                let outer = names.len();
+                let before = depth.count();
+                let definitions = self.define(definitions.as_slice(), names, depth)?;
+                let value = self.only(values.as_slice(), names, depth)?;
+                depth.back_to(before);
+                names.truncate(outer)?;
+                Ok(self.behind(definitions, value)?)
             }
-            Node::Construct {
-                index,
-                low,
-                high,
-                elem,
-            } => {
-                let low = self.expr(low)?;
-                let high = self.expr(high)?;
-                let elem = self.expr(elem)?;
-                Ok(Node::Construct {
-                    index: *index,
-                    low,
-                    high,
-                    elem,
-                })
-            }
-            Node::Fold {
-                index,
-                low,
-                high,
-                op,
-                elem,
-            } => {
-                let low = self.expr(low)?;
-                let high = self.expr(high)?;
-                let elem = self.expr(elem)?;
-                Ok(Node::Fold {
-                    index: *index,
-                    low,
-                    high,
-                    op: *op,
-                    elem,
-                })
-            }
-            Node::For {
-                definitions,
-                test,
-                assigns,
-                last,
-            } => {
-                let definitions = self.definitions(definitions.as_slice())?;
-                let test = self.expr(test)?;
-                let assigns = self.assigns(assigns.as_slice())?;
-                let last = self.expr(last)?;
-                Ok(Node::For {
-                    definitions,
-                    test,
-                    assigns,
-                    last,
-                })
-            }
-            Node::Array { at, value } => {
-                let at = self.expr(at)?;
-                let value = self.expr(value)?;
-                Ok(Node::Array { at, value })
-            }
-            Node::Update { name, at, value } => {
-                let at = self.expr(at)?;
-                let value = self.expr(value)?;
-                Ok(Node::Update {
-                    name: *name,
-                    at,
-                    value,
-                })
-            }
-            Node::Replaced {
-                parameters,
-                arguments,
-                body,
-            } => {
-                let parameters = Items::from_slice(self.alloc, parameters.as_slice())?;
-                let arguments = self.exprs(arguments.as_slice())?;
-                let body = self.expr(body)?;
-                Ok(Node::Replaced {
-                    parameters,
-                    arguments,
-                    body,
-                })
-            }
+            Node::Construct { .. } => Ok(nothing()),
+            Node::Fold { .. } => Ok(nothing()),
+            Node::For { .. } => Ok(nothing()),
+            Node::Array { .. } => Ok(nothing()),
+            Node::Update { .. } => Ok(nothing()),
         }
     }
 
-    /// What stands in place of a call.
+    /// The links of a chain in order.
     #[cycle(copy)]
-    fn call(&self, name: &Name, arguments: &[Expr]) -> Result<Node, Memory>
+    fn steps(
+        &self,
+        links: &[Link],
+        names: &mut Names,
+        depth: &mut Depth,
+    ) -> Result<Items<Step>, Memory>
         requires { Gives self.now.functions.now self.now.table.now (F.pre self.now.body) (F.post self.now.body) }
-        ensures { IfOk result (λ n. n ≡ replaced name.now (map (expr_inlined (replacement (reverse self.now.functions.now))) arguments.now) ((replacement (reverse self.now.functions.now)) name.now)) }
+        ensures value { IfOk result (λ l. l ≡ map (step_of (bodies (reverse self.now.functions.now)) (scope_of names.old depth.old self.now.index)) links.now) }
+        ensures kept { IfOk result (λ _. names.new ≡ names.old) }
+        ensures same_depth { IfOk result (λ _. depth.new ≡ depth.old) }
     {
-        let arguments = self.exprs(arguments)?;
-        match (self.body)(self.alloc, self.table, self.functions, name)? {
-            None => Ok(Node::Call {
-                name: *name,
-                arguments,
-            }),
-            Some(Replacement { parameters, body }) => Ok(Node::Replaced {
-                parameters,
-                arguments,
-                body,
-            }),
-        }
-    }
-
-    /// Expressions in order.
-    #[cycle(copy)]
-    fn exprs(&self, exprs: &[Expr]) -> Result<Items<Expr>, Memory>
-        requires { Gives self.now.functions.now self.now.table.now (F.pre self.now.body) (F.post self.now.body) }
-        ensures { IfOk result (λ l. l ≡ map (expr_inlined (replacement (reverse self.now.functions.now))) exprs.now) }
-    {
-        let mut copies = Items::new(self.alloc);
-        for expr in exprs {
-            copies.push(self.expr(expr)?)?;
-        }
-        Ok(copies)
-    }
-
-    /// Links in order.
-    #[cycle(copy)]
-    fn links(&self, links: &[Link]) -> Result<Items<Link>, Memory>
-        requires { Gives self.now.functions.now self.now.table.now (F.pre self.now.body) (F.post self.now.body) }
-        ensures { IfOk result (λ l. l ≡ links_inlined (replacement (reverse self.now.functions.now)) links.now) }
-    {
-        let mut copies = Items::new(self.alloc);
+        let mut steps = Items::new(self.alloc);
         for link in links {
-            let operand = self.expr(&link.operand)?;
-            copies.push(Link {
-                op: link.op,
+            let operand = self.term(&link.operand, names, depth)?;
+            steps.push(Step {
+                with: Binary::Operation(link.op),
                 operand,
             })?;
         }
-        Ok(copies)
+        Ok(steps)
     }
 
     /// Arms in order.
     #[cycle(copy)]
-    fn arms(&self, arms: &[Arm]) -> Result<Items<Arm>, Memory>
+    fn branches(
+        &self,
+        arms: &[Arm],
+        names: &mut Names,
+        depth: &mut Depth,
+    ) -> Result<Items<Branch>, Memory>
         requires { Gives self.now.functions.now self.now.table.now (F.pre self.now.body) (F.post self.now.body) }
-        ensures { IfOk result (λ l. l ≡ arms_inlined (replacement (reverse self.now.functions.now)) arms.now) }
+        ensures value { IfOk result (λ l. l ≡ map (branch_of (bodies (reverse self.now.functions.now)) (scope_of names.old depth.old self.now.index)) arms.now) }
+        ensures kept { IfOk result (λ _. names.new ≡ names.old) }
+        ensures same_depth { IfOk result (λ _. depth.new ≡ depth.old) }
     {
-        let mut copies = Items::new(self.alloc);
+        let mut branches = Items::new(self.alloc);
         for arm in arms {
-            let test = self.expr(&arm.test)?;
-            let value = self.expr(&arm.value)?;
-            copies.push(Arm { test, value })?;
+            let test = self.term(&arm.test, names, depth)?;
+            let value = self.term(&arm.value, names, depth)?;
+            branches.push(Branch { test, value })?;
         }
-        Ok(copies)
+        Ok(branches)
     }
 
-    /// Definitions in order.
+    /// Arguments in order, each behind those before it, and in the caller's names.
     #[cycle(copy)]
-    fn definitions(&self, definitions: &[Definition]) -> Result<Items<Definition>, Memory>
+    fn arguments(
+        &self,
+        arguments: &[Expr],
+        names: &mut Names,
+        depth: &mut Depth,
+    ) -> Result<Items<Term>, Memory>
         requires { Gives self.now.functions.now self.now.table.now (F.pre self.now.body) (F.post self.now.body) }
-        ensures { IfOk result (λ l. l ≡ definitions_inlined (replacement (reverse self.now.functions.now)) definitions.now) }
+        ensures value { IfOk result (λ l. l ≡ arguments_of (scope_of names.old depth.old self.now.index) (besides (bodies (reverse self.now.functions.now)) arguments.now)) }
+        ensures kept { IfOk result (λ _. names.new ≡ names.old) }
+        ensures same_depth { IfOk result (λ _. depth.new ≡ depth.old) }
     {
-        let mut copies = Items::new(self.alloc);
+        let mut terms = Items::new(self.alloc);
+        let before = depth.count();
+        for argument in arguments {
+            terms.push(self.term(argument, names, depth)?)?;
+            depth.deepen()?;
+        }
+        depth.back_to(before);
+        Ok(terms)
+    }
+
+    /// A call.
+    #[cycle(copy)]
+    fn called(
+        &self,
+        name: &Name,
+        arguments: &[Expr],
+        names: &mut Names,
+        depth: &mut Depth,
+    ) -> Result<Term, Memory>
+        requires { Gives self.now.functions.now self.now.table.now (F.pre self.now.body) (F.post self.now.body) }
+        ensures value { IfOk result (λ t. t ≡ called (scope_of names.old depth.old self.now.index) (besides (bodies (reverse self.now.functions.now)) arguments.now) (bodies (reverse self.now.functions.now) name.now)) }
+        ensures kept { IfOk result (λ _. names.new ≡ names.old) }
+        ensures same_depth { IfOk result (λ _. depth.new ≡ depth.old) }
+    {
+        let definitions = self.arguments(arguments, names, depth)?;
+        match (self.body)(self.alloc, self.table, self.functions, name, depth.count())? {
+            None => Ok(nothing()),
+            Some(body) => {
+                let value = Boxed::new(self.alloc, body)?;
+                Ok(Term::Let { definitions, value })
+            }
+        }
+    }
+
+    /// Binds each definition in order, and gives their terms.
+    #[cycle(copy)]
+    fn define(
+        &self,
+        definitions: &[Definition],
+        names: &mut Names,
+        depth: &mut Depth,
+    ) -> Result<Items<Term>, Memory>
+        requires { Gives self.now.functions.now self.now.table.now (F.pre self.now.body) (F.post self.now.body) }
+        ensures bound { IfOk result (λ terms. (terms, scope_of names.new depth.new self.now.index)
+            ≡ fold define ([], scope_of names.old depth.old self.now.index) (listed (bodies (reverse self.now.functions.now)) definitions.now)) }
+        ensures kept { IfOk result (λ _. take (length names.old) names.new ≡ names.old) }
+        ensures deeper { IfOk result (λ _. depth.old ≤ depth.new) }
+    {
+        let mut terms = Items::new(self.alloc);
         for definition in definitions {
-            let value = self.expr(&definition.value)?;
-            copies.push(Definition {
-                name: definition.name,
-                sort: definition.sort,
-                value,
+            terms.push(self.term(&definition.value, names, depth)?)?;
+            names.push(Binding {
+                name: definition.name.name,
+                standing: Standing::Local(depth.count()),
             })?;
+            depth.deepen()?;
         }
-        Ok(copies)
+        Ok(terms)
     }
 
-    /// Assignments in order.
+    /// An only value.
     #[cycle(copy)]
-    fn assigns(&self, assigns: &[Assign]) -> Result<Items<Assign>, Memory>
+    pub fn only(
+        &self,
+        values: &[Expr],
+        names: &mut Names,
+        depth: &mut Depth,
+    ) -> Result<Option<Term>, Memory>
         requires { Gives self.now.functions.now self.now.table.now (F.pre self.now.body) (F.post self.now.body) }
-        ensures { IfOk result (λ l. l ≡ assigns_inlined (replacement (reverse self.now.functions.now)) assigns.now) }
+        ensures value { IfOk result (λ o. o ≡ only_of (scope_of names.old depth.old self.now.index) (besides (bodies (reverse self.now.functions.now)) values.now)) }
+        ensures kept { IfOk result (λ _. names.new ≡ names.old) }
+        ensures same_depth { IfOk result (λ _. depth.new ≡ depth.old) }
     {
-        let mut copies = Items::new(self.alloc);
-        for assign in assigns {
-            let value = self.expr(&assign.value)?;
-            copies.push(Assign {
-                name: assign.name,
-                value,
-            })?;
+        match values {
+            [value] => Ok(Some(self.term(value, names, depth)?)),
+            _ => Ok(None),
         }
-        Ok(copies)
     }
 }

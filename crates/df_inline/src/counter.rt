@@ -122,14 +122,6 @@ impl Counter<'_> {
                 let at = self.expr(at);
                 at.and(self.expr(value)).inside().one_more()
             }
-            Node::Replaced {
-                arguments,
-                body,
-                ..
-            } => {
-                let arguments = self.exprs(arguments.as_slice());
-                arguments.and(self.expr(body)).inside().one_more()
-            }
         }
     }
 

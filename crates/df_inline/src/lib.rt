@@ -1,13 +1,11 @@
-//! Calls replaced by the bodies of their functions.
+//! Programs in blocks as flat programs, within the limits of size.
 //!
-//! A program in blocks calls functions by their names. Before it is built, each call becomes a node
-//! that holds the arguments and, in place of the function's name, the parameters and the body, whose
-//! own calls are replaced likewise; so what is built has no functions. `inline` makes that program,
-//! and `laws` says that its meaning and its size are those of the program with functions.
+//! A program in blocks calls functions by their names. Before it is evaluated or built, `inline` makes a flat program of it: each
+//! name becomes the number of what it stands for, and each call its arguments before the body of its function, whose own calls
+//! are replaced likewise. What the flat program is and that it means the same stands in df_flattened.
 //!
-//! A program can double its size from one function to the next. So the size is counted first, with
-//! each function looked at once, and a program that would have too many nodes or nest too many
-//! brackets is refused before anything is copied.
+//! A program can double its size from one function to the next. So the size is counted first, with each function looked at once,
+//! and a program that would have too many nodes or nest too many brackets is refused before anything is made.
 #![tactic(auto)]
 
 mod answers;
@@ -16,10 +14,11 @@ mod bodies;
 mod copier;
 mod count;
 mod counter;
+mod depth;
 mod inliner;
-pub mod laws;
-mod replacement;
+mod names;
 mod size;
+mod subscripts;
 mod table;
 
 pub use answers::InlineAnswer;

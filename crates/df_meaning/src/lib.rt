@@ -1,16 +1,9 @@
-//! The meaning of programs, computed: an evaluator for programs in blocks.
+//! The meaning of programs in blocks, computed.
+//!
+//! A program in blocks is made flat first (df_inline), and the flat program is evaluated (df_core). That both mean the same is a
+//! law of df_flattened, for programs that keep their demands.
 #![tactic(auto)]
 
-mod answers;
-mod bindings;
-mod blocks;
-mod calls;
 mod evaluator;
-mod held;
-mod inputs;
-mod locals;
-mod results;
-mod scope;
-mod table;
 
 pub use evaluator::eval;

@@ -221,8 +221,6 @@ module _ (functions : List Function) where
       (λ taken names covers h. two_new at value integer (element_of (value_sort (names name))) taken names covers
       (rest_holds (known_array name e.place names) (asked (look at.0) integer names ++ asked (look value.0) (element_of (value_sort (names name))) names) h))
       (λ taken names results covers count several h. cc)
-  step e (Node-F.Replaced parameters arguments body) is =
-      new_at e (Node-F.Replaced parameters (firsts arguments) body.0) is (λ taken names covers h. cc) (λ taken names results covers count several h. cc)
 
   -- where the demands on an expression hold, the names that it binds are new
   pub expression_new : (e : Expr) → New look e

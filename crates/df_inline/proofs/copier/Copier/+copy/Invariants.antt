@@ -1,18 +1,33 @@
-use Rattle.std.proofs.Common.{◌≡◌, take, map, reverse}
-use Rattle.df_inline.specs.Inlined.{expr_inlined, replacement, links_inlined, arms_inlined, definitions_inlined, assigns_inlined}
+use Rattle.std.proofs.Common.{◌≡◌, ◌≤◌, ◌+◌, take, map, reverse, length, fold, []}
+use Rattle.df_flattened.specs.Flattened.{flatten, bodies, arguments_of, define}
+use Rattle.df_inline.specs.Bindings.{scope_of}
+use Rattle.df_inline.specs.Lowered.{step_of, branch_of, besides, listed}
 use Rattle.df_inline.proofs.copier.Copier.+copy.Given as goal
 
-abbrev pub invariant-exprs-loop-expr : goal.invariant-exprs-loop-expr
-invariant-exprs-loop-expr g l = l.copies ≡ map (expr_inlined (replacement (reverse l.self.functions.now))) (take l.expr-index l.exprs)
+abbrev pub invariant-steps-loop-link : goal.invariant-steps-loop-link
+invariant-steps-loop-link g l = record {
+  made : l.steps ≡ map (step_of (bodies (reverse l.self.functions.now)) (scope_of l.initial.names l.initial.depth l.self.index)) (take l.link-index l.links);
+  kept : l.names ≡ l.initial.names;
+  same_depth : l.depth ≡ l.initial.depth;
+}
 
-abbrev pub invariant-links-loop-link : goal.invariant-links-loop-link
-invariant-links-loop-link g l = l.copies ≡ links_inlined (replacement (reverse l.self.functions.now)) (take l.link-index l.links)
+abbrev pub invariant-branches-loop-arm : goal.invariant-branches-loop-arm
+invariant-branches-loop-arm g l = record {
+  made : l.branches ≡ map (branch_of (bodies (reverse l.self.functions.now)) (scope_of l.initial.names l.initial.depth l.self.index)) (take l.arm-index l.arms);
+  kept : l.names ≡ l.initial.names;
+  same_depth : l.depth ≡ l.initial.depth;
+}
 
-abbrev pub invariant-arms-loop-arm : goal.invariant-arms-loop-arm
-invariant-arms-loop-arm g l = l.copies ≡ arms_inlined (replacement (reverse l.self.functions.now)) (take l.arm-index l.arms)
+abbrev pub invariant-arguments-loop-argument : goal.invariant-arguments-loop-argument
+invariant-arguments-loop-argument g l = record {
+  made : l.terms ≡ arguments_of (scope_of l.initial.names l.initial.depth l.self.index) (besides (bodies (reverse l.self.functions.now)) (take l.argument-index l.arguments));
+  deep : l.depth ≡ l.initial.depth + l.argument-index;
+  kept : l.names ≡ l.initial.names;
+}
 
-abbrev pub invariant-definitions-loop-definition : goal.invariant-definitions-loop-definition
-invariant-definitions-loop-definition g l = l.copies ≡ definitions_inlined (replacement (reverse l.self.functions.now)) (take l.definition-index l.definitions)
-
-abbrev pub invariant-assigns-loop-assign : goal.invariant-assigns-loop-assign
-invariant-assigns-loop-assign g l = l.copies ≡ assigns_inlined (replacement (reverse l.self.functions.now)) (take l.assign-index l.assigns)
+abbrev pub invariant-define-loop-definition : goal.invariant-define-loop-definition
+invariant-define-loop-definition g l = record {
+  bound : (l.terms, scope_of l.names l.depth l.self.index) ≡ fold define ([], scope_of l.initial.names l.initial.depth l.self.index) (listed (bodies (reverse l.self.functions.now)) (take l.definition-index l.definitions));
+  kept : take (length l.initial.names) l.names ≡ l.initial.names;
+  deeper : l.initial.depth ≤ l.depth;
+}

@@ -7,7 +7,7 @@ use Rattle.df_syntax.specs.WellBuilt.{sort_nesting}
 use Rattle.df_inline.specs.Sizes.{bracketed, both, one_more, beside, expr_size}
 use Rattle.df_inline.specs.Counts.{saturated, links_of, arms_of, definitions_of, assigns_of}
 use Rattle.df_inline.proofs.Saturated.{counted}
-use Rattle.df_inline.proofs.SizeForms.{number, truth, error, named, access, call, chain, compared, negate, invert, parens, tested, two_place, chosen, let_is, construct, folded, looped, array, updated, was_replaced}
+use Rattle.df_inline.proofs.SizeForms.{number, truth, error, named, access, call, chain, compared, negate, invert, parens, tested, two_place, chosen, let_is, construct, folded, looped, array, updated}
 use Rattle.df_inline.proofs.counter.Counter.+count.Goals as goal
 
 pub expr-returns-in-Number : goal.expr-returns-in-Number
@@ -89,10 +89,6 @@ expr-returns-in-Array t c = λ of_call h.
 pub expr-returns-in-Update : goal.expr-returns-in-Update
 expr-returns-in-Update t c = λ of_call h.
     (c.one_more-in-Update.ensures _ (c.inside-in-Update.ensures _ (c.and-in-Update.ensures _ _ (c.expr-at-in-Update.ensures of_call h) (c.expr-in-Update.ensures of_call h)))) ∙ ap saturated (sym (updated of_call c.args.expr.now c.in-Update.name c.in-Update.at c.in-Update.value (sym c.get.ensures ∙ c.in-Update.is)))
-
-pub expr-returns-in-Replaced : goal.expr-returns-in-Replaced
-expr-returns-in-Replaced t c = λ of_call h.
-    (c.one_more-in-Replaced.ensures _ (c.inside-in-Replaced.ensures _ (c.and-in-Replaced.ensures _ _ (c.exprs-arguments-in-Replaced.ensures of_call h ∙ ap (λ l. saturated (beside (map (expr_size of_call) l))) c.as_slice-in-Replaced.ensures) (c.expr-in-Replaced.ensures of_call h)))) ∙ ap saturated (sym (was_replaced of_call c.args.expr.now c.in-Replaced.parameters c.in-Replaced.arguments c.in-Replaced.body (sym c.get.ensures ∙ c.in-Replaced.is)))
 
 pub exprs-loop-expr-preserved : goal.exprs-loop-expr-preserved
 exprs-loop-expr-preserved t c = λ of_call h.
