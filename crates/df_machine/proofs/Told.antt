@@ -16,7 +16,7 @@ use Rattle.df_machine.specs.declared.packets.Packet.{Packet}
 use Rattle.df_machine.specs.declared.packets.Packet.TheVariants.{Operation, Operand, Acknowledgement}
 use Rattle.df_machine.specs.CanRun.{CanRun}
 use Rattle.df_machine.specs.States.{State, row, is_busy, awaits, firings, told_count, told}
-use Rattle.df_machine.specs.Events.{is_below, has_operands, is_enabled, enabled, possible, taken, left, fire, answers, acknowledgements, answer_now, perform, arrive, acknowledge, written, state_from, next, chosen}
+use Rattle.df_machine.specs.Events.{is_below, has_operands, is_enabled, enabled, possible, taken, left, fire, answers, acknowledgements, answer_now, perform, arrive, acknowledge, written, event_from, state_from, event_at, next, chosen, chosen_event}
 use Rattle.df_machine.specs.Sound.{IsWithinLimits}
 use Rattle.df_machine.proofs.Formed.{limit_from_source}
 use Rattle.df_machine.proofs.Outputs.{limit_from_enabled}
@@ -66,6 +66,12 @@ enabled_told cells s w within = filter_same (is_enabled cells (told s)) (is_enab
 pub possible_told : (cells : List Cell) (s : State) → CanRun cells → IsWithinLimits cells s → possible cells (told s) ≡ possible cells s
 unfolding possible
 possible_told cells s w within = ap (λ (l : List ℕ). length l + length s.packets) (enabled_told cells s w within)
+
+pub event_told : (cells : List Cell) (s : State) (k : ℕ) → CanRun cells → IsWithinLimits cells s → chosen_event cells (told s) k ≡ chosen_event cells s k
+unfolding chosen_event event_at possible
+event_told cells s k w within =
+    let at = λ (l : List ℕ). k % (length l + length s.packets) in
+    ap (λ (l : List ℕ). event_from (slice_get l (at l)) (slice_get s.packets (at l - length l))) (enabled_told cells s w within)
 
 -- ---- what they do
 
