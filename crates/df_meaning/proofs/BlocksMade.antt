@@ -4,10 +4,10 @@ use Rattle.std.proofs.Math.Seq.{drop-append_seam}
 use Rattle.std.proofs.lemmas.Grind.{common_steps}
 use Rattle.std.proofs.lemmas.List.{append-nil, map-append, drop-map, length-map}
 use Rattle.df_values.specs.declared.values.Value.{Value}
+use Rattle.df_values.specs.declared.inputs.Input.{Input}
 use Rattle.df_syntax.specs.declared.bound.Bound.{Bound}
 use Rattle.df_syntax.specs.declared.program.Function.{Function}
 use Rattle.df_syntax.specs.declared.piped.Block.{Block}
-use Rattle.df_syntax.specs.declared.piped.Input.{Input}
 use Rattle.df_syntax.specs.declared.piped.Piped.{Piped}
 use Rattle.df_syntax.specs.Meaning.{Name, Env, calls}
 use Rattle.df_syntax.specs.BlockMeaning.{made, bind_some, blocks_made, given, mean, result_of}

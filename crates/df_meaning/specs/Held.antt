@@ -2,9 +2,9 @@
 use Rattle.std.specs.Prelude.{List, [], ◌∷◌, ◌++◌, map, fold, Some}
 use Rattle.std.specs.List.{zip}
 use Rattle.df_values.specs.declared.values.Value.{Value}
+use Rattle.df_values.specs.declared.inputs.Input.{Input}
 use Rattle.df_syntax.specs.declared.bound.Bound.{Bound}
 use Rattle.df_syntax.specs.declared.program.Function.{Function}
-use Rattle.df_syntax.specs.declared.piped.Input.{Input}
 use Rattle.df_syntax.specs.declared.piped.Block.{Block}
 use Rattle.df_syntax.specs.BlockMeaning.{given, made}
 use Rattle.df_meaning.specs.declared.held.Held.{Held}

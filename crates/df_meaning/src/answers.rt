@@ -10,10 +10,10 @@ ghost use Rattle.df_meaning.specs.Environment.{Within};
 use df_syntax::tree::Link;
 use df_values::kinds::{Op, Rel, Test};
 use df_values::operators::{apply, compare, invert, negate, test};
-use df_values::values::Value;
+use df_values::values::{Exact, Value};
 
-/// Wide enough for the sum of any subscript.
-pub type Whole = i128;
+/// Wide enough for the sum of any subscript: each part is an ordinary integer, and no list has 2^63 parts.
+pub type Whole = Exact;
 
 /// The answer of an operator.
 pub fn join(op: Op, left: Option<Value>, right: Option<Value>) -> Option<Value>
@@ -68,7 +68,7 @@ pub fn tested(t: Test, of: Option<Value>) -> Option<Value>
 /// An ordinary integer as a whole number.
 pub fn ordinary(value: Option<Value>) -> Option<Whole>
     ensures value { result ≡ ordinary value }
-    ensures small { Within (2 ^ 32) result }
+    ensures small { Within (2 ^ 63) result }
 {
     match value {
         Some(Value::Int(n)) => Some(Whole::from(n)),
@@ -78,10 +78,10 @@ pub fn ordinary(value: Option<Value>) -> Option<Whole>
 
 /// A sum of whole numbers with one part more.
 pub fn shifted(op: Op, sum: Option<Whole>, operand: Option<Whole>) -> Option<Whole>
-    requires sum { Within (2 ^ 110) sum }
-    requires operand { Within (2 ^ 32) operand }
+    requires sum { Within (2 ^ 126) sum }
+    requires operand { Within (2 ^ 63) operand }
     ensures value { result ≡ exact op sum operand }
-    ensures small { (n : ℕ) → Within n sum → Within (n + 2 ^ 32) result }
+    ensures small { (n : ℕ) → Within n sum → Within (n + 2 ^ 63) result }
 {
     match (op, sum, operand) {
         (Op::Add, Some(a), Some(b)) => Some(a + b),

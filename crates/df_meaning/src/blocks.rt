@@ -2,12 +2,13 @@
 ghost use Rattle.std.specs.Prelude.{◌≡◌, ◌++◌, ◌∷◌, [], IfOk, OnOk, ◌<◌, pos, ◌+ℤ◌, Some, suc};
 ghost use Rattle.df_values.specs.Values.{IsOrdinary};
 ghost use Rattle.df_values.specs.Tables.{answer};
+ghost use Rattle.df_values.specs.Inputs.{IsRange};
 ghost use Rattle.df_values.specs.declared.values.Value as value;
 ghost use Rattle.df_values.specs.declared.values.Value.TheVariants.{Int};
 ghost use Rattle.df_syntax.specs.declared.bound.Bound.TheVariants.{Scalar, Array};
 ghost use Rattle.df_syntax.specs.Meaning.{value_of, both};
 ghost use Rattle.df_syntax.specs.BlockMeaning.{value_at, members_over, joined_from, folded, before, recurred, made};
-ghost use Rattle.df_syntax.specs.WellShaped.{IsRange, HasRange};
+ghost use Rattle.df_syntax.specs.WellShaped.{HasRange};
 ghost use Rattle.df_meaning.specs.Environment.{env_of, extended};
 
 use crate::answers::join;
@@ -23,7 +24,7 @@ use df_syntax::tree::Expr;
 use df_values::kinds::Op;
 use df_values::memory::Memory;
 use df_values::name::Name;
-use df_values::values::{Integer, Value};
+use df_values::values::{Exact, Integer, Value};
 use sqlite_items::Items;
 use std::alloc::Global;
 
@@ -58,7 +59,7 @@ impl Turns {
     {
         Binding {
             name: self.index,
-            value: Some(Value::Int((self.lo as i64 + k as i64) as Integer)),
+            value: Some(Value::Int((Exact::from(self.lo) + Exact::from(k)) as Integer)),
         }
     }
 }
@@ -151,7 +152,7 @@ impl Around<'_> {
             Body::Construct { index, lo, n, elem } => {
                 let members = self.members(&range(index, lo, n), elem)?;
                 Ok(Bound::Array {
-                    lowest: *lo as i64,
+                    lowest: *lo,
                     members,
                 })
             }
@@ -189,7 +190,9 @@ fn range(index: &Name, lo: &Integer, n: &u32) -> Turns
 }
 
 /// The array of a recurrence with its first element alone.
+#[tactic(auto, unfolding(df_values::specs::Values::least, df_values::specs::Values::greatest))]
 fn started(alloc: Global, array: Name, lo: Integer, first: Option<Value>) -> Result<Held, Memory>
+    requires { IsOrdinary (before lo) }
     ensures { IfOk result (λ h. h ≡ record { name = Some array; bound = Array (before lo) (first ∷ []) }) }
 {
     let mut members = Items::new(alloc);
@@ -197,7 +200,7 @@ fn started(alloc: Global, array: Name, lo: Integer, first: Option<Value>) -> Res
     Ok(Held {
         name: Some(array),
         bound: Bound::Array {
-            lowest: lo as i64 - 1,
+            lowest: lo - 1,
             members,
         },
     })

@@ -55,7 +55,7 @@ pub fn scalar_of(bound: Option<&Bound>) -> Option<Value>
 
 /// The member of an array at an index.
 pub fn element_of(bound: Option<&Bound>, at: Option<Whole>) -> Option<Value>
-    requires { Within (2 ^ 110) at }
+    requires { Within (2 ^ 126) at }
     ensures { result ≡ element (option_copied bound.entry) at }
 {
     match (bound, at) {

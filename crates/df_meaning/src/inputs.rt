@@ -6,7 +6,7 @@ ghost use Rattle.df_meaning.specs.Held.{inputs_held};
 use crate::held::Held;
 use crate::table::Table;
 use df_syntax::bound::Bound;
-use df_syntax::piped::{Extent, Input};
+use df_values::inputs::{Extent, Input};
 use df_values::memory::Memory;
 use df_values::streams::Streams;
 use df_values::values::Value;
@@ -41,7 +41,7 @@ fn given(alloc: Global, extent: Option<Extent>, values: &[Value]) -> Result<Boun
         Some(extent) => {
             let members = present(alloc, values)?;
             Ok(Bound::Array {
-                lowest: extent.lo as i64,
+                lowest: extent.lo,
                 members,
             })
         }

@@ -59,7 +59,7 @@ impl<F> Scope<'_, F> {
 
     /// The member of an array by its name.
     fn accessed(&self, name: &Name, at: Option<Whole>, locals: &Locals) -> Option<Value>
-        requires { Within (2 ^ 110) at }
+        requires { Within (2 ^ 126) at }
         ensures { result ≡ element (bound_at (names_of self.now.main.now self.now.own.now locals.now) name.now) at }
     {
         match locals.get(name) {
@@ -176,7 +176,7 @@ impl<
     fn whole(&self, expr: &Expr, locals: &mut Locals) -> Result<Option<Whole>, Memory>
         requires { Answers self.now.functions.now (F.pre self.now.call) (F.post self.now.call) }
         ensures value { IfOk result (λ k. k ≡ whole_of expr.now (env_of self.now.functions.now self.now.main.now self.now.own.now locals.old)) }
-        ensures small { IfOk result (λ k. Within (2 ^ 110) k) }
+        ensures small { IfOk result (λ k. Within (2 ^ 126) k) }
         ensures kept { IfOk result (λ _. locals.new ≡ locals.old) }
     {
         match expr.node.get() {
@@ -203,7 +203,7 @@ impl<
     ) -> Result<Option<Whole>, Memory>
         requires { Answers self.now.functions.now (F.pre self.now.call) (F.post self.now.call) }
         ensures value { IfOk result (λ k. k ≡ sum_by (value_in self.now.functions.now self.now.main.now self.now.own.now locals.old) (ordinary first) rest.now) }
-        ensures small { IfOk result (λ k. Within (2 ^ 110) k) }
+        ensures small { IfOk result (λ k. Within (2 ^ 126) k) }
         ensures kept { IfOk result (λ _. locals.new ≡ locals.old) }
     {
         let mut sum = ordinary(first);

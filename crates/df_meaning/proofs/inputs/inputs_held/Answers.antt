@@ -1,6 +1,6 @@
 use Rattle.std.proofs.Common.{◌∙◌, ap, map, arith, inl, inr, [], List, Some, ◌++◌, ◌∷◌, get_or}
 use Rattle.df_values.specs.declared.values.Value.{Value}
-use Rattle.df_syntax.specs.declared.piped.Input.{Input}
+use Rattle.df_values.specs.declared.inputs.Input.{Input}
 use Rattle.df_syntax.specs.BlockMeaning.{given}
 use Rattle.df_meaning.specs.declared.held.Held.{Held}
 use Rattle.df_meaning.proofs.Zips.{zip_map_step, zip_all}

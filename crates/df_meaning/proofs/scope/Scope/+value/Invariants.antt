@@ -34,6 +34,6 @@ invariant-define-loop-definition g l = record {
 abbrev pub invariant-sum-loop-link : goal.invariant-sum-loop-link
 invariant-sum-loop-link g l = record {
   sum : l.sum ≡ sum_by (value_in l.self.functions.now l.self.main.now l.self.own.now l.initial.locals) (ordinary l.fn.first) (take l.link-index l.rest);
-  small : Within (2 ^ 32 * (l.link-index + 1)) l.sum;
+  small : Within (2 ^ 63 * (l.link-index + 1)) l.sum;
   kept : l.locals ≡ l.initial.locals;
 }
