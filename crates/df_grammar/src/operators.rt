@@ -6,20 +6,19 @@ ghost use Rattle.df_syntax.specs.Grammar as line;
 ghost use Rattle.df_syntax.specs.Lines.{start};
 ghost use Rattle.df_syntax.specs.TokenClasses.{class};
 ghost use Rattle.df_syntax.specs.Reading.{reads};
-ghost use Rattle.df_grammar.specs.Reads.{Reads, plain};
+ghost use Rattle.df_cursor.specs.Reads.{Reads, plain};
 
-use crate::cursor::Cursor;
 use crate::descent::Descent;
-use crate::error::ParseError;
+use df_cursor::cursor::Cursor;
+use df_cursor::error::ParseError;
 use df_syntax::symbol::Symbol;
 use df_syntax::token::Token;
-use df_syntax::tree::{Expr, Named};
+use df_syntax::tree::Named;
 use df_syntax::word::Reserved;
 use df_values::kinds::{Op, Rel, Test};
 use df_values::values::Basic;
-use std::alloc::Global;
 
-impl<F: Fn(Global, &mut Cursor<'_>, usize) -> Result<Expr, ParseError>> Descent<F> {
+impl<F> Descent<F> {
     /// A name where it is bound, inside one bracket or two.
     #[tactic(auto, unfolding(df_syntax::specs::Grammar::bound, df_forms::specs::Reading::read))]
     pub fn bound(&self, tokens: &mut Cursor<'_>) -> Result<Named, ParseError>
@@ -34,7 +33,7 @@ impl<F: Fn(Global, &mut Cursor<'_>, usize) -> Result<Expr, ParseError>> Descent<
     }
 
     /// A basic type.
-    #[tactic(auto, unfolding(df_syntax::specs::Grammar::basic_type, df_forms::specs::Reading::read, crate::specs::Reads::plain))]
+    #[tactic(auto, unfolding(df_syntax::specs::Grammar::basic_type, df_forms::specs::Reading::read, df_cursor::specs::Reads::plain))]
     pub fn basic_type(&self, tokens: &mut Cursor<'_>) -> Result<Basic, ParseError>
         ensures { Reads (plain line.basic_type tokens.old.rest.now) tokens.old.rest.now result tokens.new.rest.now }
     {
