@@ -55,7 +55,6 @@ impl<F> Descent<F> {
 
 impl<F: Fn(Global, &mut Cursor<'_>, usize) -> Result<Expr, ParseError>> Descent<F> {
     /// An expression behind a comma.
-    #[tactic(auto, unfolding(crate::specs::Parts::next_expr, df_forms::specs::Reading::read, df_cursor::specs::Reads::opened))]
     pub fn next_expr(&self, tokens: &mut Cursor<'_>) -> Result<Expr, ParseError>
         requires nests { Nests self.now.depth (F.pre self.now.expr) (F.post self.now.expr) }
         requires inside { 0 < self.now.depth }
@@ -96,7 +95,6 @@ impl<F: Fn(Global, &mut Cursor<'_>, usize) -> Result<Expr, ParseError>> Descent<
     }
 
     /// The definition of a name.
-    #[tactic(auto, using(crate::proofs::Levels::level_bound_1, crate::proofs::Levels::level_sort_1), unfolding(df_syntax::specs::Grammar::definition, df_forms::specs::Reading::read, df_cursor::specs::Reads::opened))]
     pub fn definition(&self, tokens: &mut Cursor<'_>) -> Result<Definition, ParseError>
         requires nests { Nests self.now.depth (F.pre self.now.expr) (F.post self.now.expr) }
         requires inside { 0 < self.now.depth }
@@ -111,7 +109,6 @@ impl<F: Fn(Global, &mut Cursor<'_>, usize) -> Result<Expr, ParseError>> Descent<
     }
 
     /// A definition behind a semicolon.
-    #[tactic(auto, unfolding(crate::specs::Parts::next_definition, df_forms::specs::Reading::read, df_cursor::specs::Reads::opened))]
     pub fn next_definition(&self, tokens: &mut Cursor<'_>) -> Result<Definition, ParseError>
         requires nests { Nests self.now.depth (F.pre self.now.expr) (F.post self.now.expr) }
         requires inside { 0 < self.now.depth }
@@ -138,7 +135,6 @@ impl<F: Fn(Global, &mut Cursor<'_>, usize) -> Result<Expr, ParseError>> Descent<
     }
 
     /// Definitions and the values that they are for.
-    #[tactic(auto, using(crate::proofs::Levels::level_definitions_1, crate::proofs::Levels::level_exprs_1), unfolding(df_syntax::specs::Grammar::block, df_forms::specs::Reading::read, df_cursor::specs::Reads::opened))]
     pub fn block(&self, tokens: &mut Cursor<'_>) -> Result<Expr, ParseError>
         requires { Nests self.now.depth (F.pre self.now.expr) (F.post self.now.expr) }
         ensures { Reads (reads self.now.depth 0 line.block tokens.old.rest.now) tokens.old.rest.now result tokens.new.rest.now }
@@ -159,7 +155,6 @@ impl<F: Fn(Global, &mut Cursor<'_>, usize) -> Result<Expr, ParseError>> Descent<
     }
 
     /// What is tested, and the value where it holds.
-    #[tactic(auto, unfolding(df_syntax::specs::Grammar::arm, df_forms::specs::Reading::read, df_cursor::specs::Reads::opened))]
     pub fn arm(&self, tokens: &mut Cursor<'_>) -> Result<Arm, ParseError>
         requires nests { Nests self.now.depth (F.pre self.now.expr) (F.post self.now.expr) }
         requires inside { 0 < self.now.depth }
@@ -172,7 +167,6 @@ impl<F: Fn(Global, &mut Cursor<'_>, usize) -> Result<Expr, ParseError>> Descent<
     }
 
     /// An arm behind `elseif`, which opens no bracket.
-    #[tactic(auto, unfolding(crate::specs::Parts::next_arm, df_forms::specs::Reading::read, df_cursor::specs::Reads::opened))]
     pub fn next_arm(&self, tokens: &mut Cursor<'_>) -> Result<Arm, ParseError>
         requires nests { Nests self.now.depth (F.pre self.now.expr) (F.post self.now.expr) }
         requires inside { 0 < self.now.depth }
@@ -199,7 +193,6 @@ impl<F: Fn(Global, &mut Cursor<'_>, usize) -> Result<Expr, ParseError>> Descent<
     }
 
     /// An `if`.
-    #[tactic(auto, using(crate::proofs::Levels::level_arms_1), unfolding(df_syntax::specs::Grammar::choice, df_forms::specs::Reading::read, df_cursor::specs::Reads::opened))]
     pub fn choice(&self, tokens: &mut Cursor<'_>) -> Result<Expr, ParseError>
         requires { Nests self.now.depth (F.pre self.now.expr) (F.post self.now.expr) }
         ensures { Reads (reads self.now.depth 0 line.choice tokens.old.rest.now) tokens.old.rest.now result tokens.new.rest.now }
@@ -213,7 +206,6 @@ impl<F: Fn(Global, &mut Cursor<'_>, usize) -> Result<Expr, ParseError>> Descent<
     }
 
     /// The element for each index, and the operator that folds them.
-    #[tactic(auto, using(crate::proofs::Levels::level_fold_op_1), unfolding(df_syntax::specs::Grammar::element, df_forms::specs::Reading::read, df_cursor::specs::Reads::opened))]
     pub fn element(&self, tokens: &mut Cursor<'_>) -> Result<(Option<Op>, Expr), ParseError>
         requires nests { Nests self.now.depth (F.pre self.now.expr) (F.post self.now.expr) }
         requires inside { 0 < self.now.depth }
@@ -230,7 +222,6 @@ impl<F: Fn(Global, &mut Cursor<'_>, usize) -> Result<Expr, ParseError>> Descent<
     }
 
     /// The indices of a `forall`.
-    #[tactic(auto, unfolding(df_syntax::specs::Grammar::bounds, df_forms::specs::Reading::read, df_cursor::specs::Reads::opened))]
     pub fn bounds(&self, tokens: &mut Cursor<'_>) -> Result<(Expr, Expr), ParseError>
         requires { Nests self.now.depth (F.pre self.now.expr) (F.post self.now.expr) }
         ensures { Reads (reads self.now.depth 1 line.bounds tokens.old.rest.now) tokens.old.rest.now result tokens.new.rest.now }
@@ -244,7 +235,6 @@ impl<F: Fn(Global, &mut Cursor<'_>, usize) -> Result<Expr, ParseError>> Descent<
     }
 
     /// A `forall`.
-    #[tactic(auto, using(crate::proofs::Levels::level_bound_1, crate::proofs::Levels::level_bounds_1, crate::proofs::Levels::level_element_1), unfolding(df_syntax::specs::Grammar::all_indices, df_forms::specs::Reading::read, df_cursor::specs::Reads::opened))]
     pub fn all_indices(&self, tokens: &mut Cursor<'_>) -> Result<Expr, ParseError>
         requires { Nests self.now.depth (F.pre self.now.expr) (F.post self.now.expr) }
         ensures { Reads (reads self.now.depth 0 line.all_indices tokens.old.rest.now) tokens.old.rest.now result tokens.new.rest.now }
@@ -259,7 +249,6 @@ impl<F: Fn(Global, &mut Cursor<'_>, usize) -> Result<Expr, ParseError>> Descent<
     }
 
     /// The next value of a name of a loop.
-    #[tactic(auto, using(crate::proofs::Levels::level_bound_2), unfolding(df_syntax::specs::Grammar::assign, df_forms::specs::Reading::read, df_cursor::specs::Reads::opened))]
     pub fn assign(&self, tokens: &mut Cursor<'_>) -> Result<Assign, ParseError>
         requires nests { Nests self.now.depth (F.pre self.now.expr) (F.post self.now.expr) }
         requires inside { 1 < self.now.depth }
@@ -272,7 +261,6 @@ impl<F: Fn(Global, &mut Cursor<'_>, usize) -> Result<Expr, ParseError>> Descent<
     }
 
     /// An assignment behind a semicolon.
-    #[tactic(auto, unfolding(crate::specs::Parts::next_assign, df_forms::specs::Reading::read, df_cursor::specs::Reads::opened))]
     pub fn next_assign(&self, tokens: &mut Cursor<'_>) -> Result<Assign, ParseError>
         requires nests { Nests self.now.depth (F.pre self.now.expr) (F.post self.now.expr) }
         requires inside { 1 < self.now.depth }
@@ -299,7 +287,6 @@ impl<F: Fn(Global, &mut Cursor<'_>, usize) -> Result<Expr, ParseError>> Descent<
     }
 
     /// A `for`.
-    #[tactic(auto, using(crate::proofs::Levels::level_definitions_1, crate::proofs::Levels::level_assigns_2), unfolding(df_syntax::specs::Grammar::for_loop, df_forms::specs::Reading::read, df_cursor::specs::Reads::opened))]
     pub fn for_loop(&self, tokens: &mut Cursor<'_>) -> Result<Expr, ParseError>
         requires { Nests self.now.depth (F.pre self.now.expr) (F.post self.now.expr) }
         ensures { Reads (reads self.now.depth 0 line.for_loop tokens.old.rest.now) tokens.old.rest.now result tokens.new.rest.now }

@@ -33,7 +33,6 @@ impl<F> Descent<F> {
     }
 
     /// A basic type.
-    #[tactic(auto, unfolding(df_syntax::specs::Grammar::basic_type, df_forms::specs::Reading::read, df_cursor::specs::Reads::plain))]
     pub fn basic_type(&self, tokens: &mut Cursor<'_>) -> Result<Basic, ParseError>
         ensures { Reads (plain line.basic_type tokens.old.rest.now) tokens.old.rest.now result tokens.new.rest.now }
     {
@@ -47,7 +46,6 @@ impl<F> Descent<F> {
     }
 
     /// `*` or `/`.
-    #[tactic(auto, unfolding(df_syntax::specs::Grammar::factor_op, df_forms::specs::Reading::read))]
     pub fn factor_op(&self, tokens: &mut Cursor<'_>) -> Result<Op, ParseError>
         ensures { Reads (reads self.now.depth 0 line.factor_op tokens.old.rest.now) tokens.old.rest.now result tokens.new.rest.now }
     {
@@ -61,7 +59,6 @@ impl<F> Descent<F> {
     }
 
     /// `+` or `-`.
-    #[tactic(auto, unfolding(df_syntax::specs::Grammar::term_op, df_forms::specs::Reading::read))]
     pub fn term_op(&self, tokens: &mut Cursor<'_>) -> Result<Op, ParseError>
         ensures { Reads (reads self.now.depth 0 line.term_op tokens.old.rest.now) tokens.old.rest.now result tokens.new.rest.now }
     {
@@ -75,7 +72,6 @@ impl<F> Descent<F> {
     }
 
     /// One of the six comparisons.
-    #[tactic(auto, unfolding(df_syntax::specs::Grammar::comparison, df_forms::specs::Reading::read))]
     pub fn comparison(&self, tokens: &mut Cursor<'_>) -> Result<Rel, ParseError>
         ensures { Reads (reads self.now.depth 0 line.comparison tokens.old.rest.now) tokens.old.rest.now result tokens.new.rest.now }
     {
@@ -101,7 +97,6 @@ impl<F> Descent<F> {
     }
 
     /// `mod`, `min` or `max`, and the token itself.
-    #[tactic(auto, unfolding(df_syntax::specs::Grammar::two_place_op, df_forms::specs::Reading::read))]
     pub fn two_place_op(&self, tokens: &mut Cursor<'_>) -> Result<(Token, Op), ParseError>
         ensures { Reads (reads self.now.depth 0 line.two_place_op tokens.old.rest.now) tokens.old.rest.now result tokens.new.rest.now }
     {
@@ -118,7 +113,6 @@ impl<F> Descent<F> {
     }
 
     /// The operator of a fold.
-    #[tactic(auto, unfolding(df_syntax::specs::Grammar::fold_op, df_forms::specs::Reading::read))]
     pub fn fold_op(&self, tokens: &mut Cursor<'_>) -> Result<Op, ParseError>
         ensures { Reads (reads self.now.depth 1 line.fold_op tokens.old.rest.now) tokens.old.rest.now result tokens.new.rest.now }
     {
@@ -144,7 +138,6 @@ impl<F> Descent<F> {
     }
 
     /// What a test asks for.
-    #[tactic(auto, unfolding(df_syntax::specs::Grammar::tested, df_forms::specs::Reading::read))]
     pub fn tested(&self, tokens: &mut Cursor<'_>) -> Result<Test, ParseError>
         ensures { Reads (reads self.now.depth 0 line.tested tokens.old.rest.now) tokens.old.rest.now result tokens.new.rest.now }
     {

@@ -63,7 +63,6 @@ impl<F> Descent<F> {
     }
 
     /// A basic type in brackets.
-    #[tactic(auto, using(crate::proofs::Levels::plain_basic_type, crate::proofs::Levels::level_basic_type), unfolding(df_syntax::specs::Grammar::of_basic, df_forms::specs::Reading::read, df_cursor::specs::Reads::opened))]
     pub fn of_basic(&self, tokens: &mut Cursor<'_>, level: usize) -> Result<Basic, ParseError>
         ensures { Reads (reads self.now.depth level line.of_basic tokens.old.rest.now) tokens.old.rest.now result tokens.new.rest.now }
     {
@@ -128,7 +127,6 @@ impl<F: Fn(Global, &mut Cursor<'_>, usize) -> Result<Expr, ParseError>> Descent<
     }
 
     /// The arguments of a call, in parentheses.
-    #[tactic(auto, using(crate::proofs::Levels::level_arguments_1), unfolding(df_syntax::specs::Lines::actuals, df_forms::specs::Reading::read, df_cursor::specs::Reads::opened))]
     pub fn actuals(&self, tokens: &mut Cursor<'_>) -> Result<Items<Expr>, ParseError>
         requires { Nests self.now.depth (F.pre self.now.expr) (F.post self.now.expr) }
         ensures { Reads (reads self.now.depth 0 read.actuals tokens.old.rest.now) tokens.old.rest.now result tokens.new.rest.now }
@@ -159,7 +157,6 @@ impl<F: Fn(Global, &mut Cursor<'_>, usize) -> Result<Expr, ParseError>> Descent<
     }
 
     /// An expression in parentheses.
-    #[tactic(auto, unfolding(df_syntax::specs::Grammar::parens, df_forms::specs::Reading::read, df_cursor::specs::Reads::opened))]
     pub fn parens(&self, tokens: &mut Cursor<'_>) -> Result<Expr, ParseError>
         requires { Nests self.now.depth (F.pre self.now.expr) (F.post self.now.expr) }
         ensures { Reads (reads self.now.depth 0 line.parens tokens.old.rest.now) tokens.old.rest.now result tokens.new.rest.now }
@@ -171,7 +168,6 @@ impl<F: Fn(Global, &mut Cursor<'_>, usize) -> Result<Expr, ParseError>> Descent<
     }
 
     /// `mod`, `min` or `max` of two expressions.
-    #[tactic(auto, using(crate::proofs::Levels::level_two_place_op_0), unfolding(df_syntax::specs::Grammar::two_place, df_forms::specs::Reading::read, df_cursor::specs::Reads::opened))]
     pub fn two_place(&self, tokens: &mut Cursor<'_>) -> Result<Expr, ParseError>
         requires { Nests self.now.depth (F.pre self.now.expr) (F.post self.now.expr) }
         ensures { Reads (reads self.now.depth 0 line.two_place tokens.old.rest.now) tokens.old.rest.now result tokens.new.rest.now }
@@ -186,7 +182,6 @@ impl<F: Fn(Global, &mut Cursor<'_>, usize) -> Result<Expr, ParseError>> Descent<
     }
 
     /// A test of an expression.
-    #[tactic(auto, using(crate::proofs::Levels::level_tested_0), unfolding(df_syntax::specs::Grammar::test_of, df_forms::specs::Reading::read, df_cursor::specs::Reads::opened))]
     pub fn test_of(&self, tokens: &mut Cursor<'_>) -> Result<Expr, ParseError>
         requires { Nests self.now.depth (F.pre self.now.expr) (F.post self.now.expr) }
         ensures { Reads (reads self.now.depth 0 line.test_of tokens.old.rest.now) tokens.old.rest.now result tokens.new.rest.now }
@@ -200,7 +195,6 @@ impl<F: Fn(Global, &mut Cursor<'_>, usize) -> Result<Expr, ParseError>> Descent<
     }
 
     /// An array of one element.
-    #[tactic(auto, unfolding(df_syntax::specs::Grammar::one_element, df_forms::specs::Reading::read, df_cursor::specs::Reads::opened))]
     pub fn one_element(&self, tokens: &mut Cursor<'_>) -> Result<Expr, ParseError>
         requires { Nests self.now.depth (F.pre self.now.expr) (F.post self.now.expr) }
         ensures { Reads (reads self.now.depth 0 line.one_element tokens.old.rest.now) tokens.old.rest.now result tokens.new.rest.now }

@@ -42,7 +42,6 @@ fn all_of(alloc: Global, groups: &[Items<Parameter>]) -> Result<Items<Parameter>
 
 impl<F> Descent<F> {
     /// A name behind a comma.
-    #[tactic(auto, unfolding(crate::specs::Parts::next_name, df_forms::specs::Reading::read, df_cursor::specs::Reads::opened))]
     pub fn next_name(&self, tokens: &mut Cursor<'_>) -> Result<Named, ParseError>
         ensures { Reads (reads self.now.depth 2 part.next_name tokens.old.rest.now) tokens.old.rest.now result tokens.new.rest.now }
     {
@@ -76,7 +75,6 @@ impl<F> Descent<F> {
     }
 
     /// A group behind a semicolon.
-    #[tactic(auto, unfolding(crate::specs::Parts::next_group, df_forms::specs::Reading::read, df_cursor::specs::Reads::opened))]
     pub fn next_group(&self, tokens: &mut Cursor<'_>) -> Result<Items<Parameter>, ParseError>
         ensures { Reads (reads self.now.depth 2 part.next_group tokens.old.rest.now) tokens.old.rest.now result tokens.new.rest.now }
     {
@@ -112,7 +110,6 @@ impl<F> Descent<F> {
     }
 
     /// A type behind a comma.
-    #[tactic(auto, unfolding(crate::specs::Parts::next_type, df_forms::specs::Reading::read, df_cursor::specs::Reads::opened))]
     pub fn next_type(&self, tokens: &mut Cursor<'_>) -> Result<Sort, ParseError>
         ensures { Reads (reads self.now.depth 2 part.next_type tokens.old.rest.now) tokens.old.rest.now result tokens.new.rest.now }
     {
@@ -137,7 +134,6 @@ impl<F> Descent<F> {
 
 impl<F: Fn(Global, &mut Cursor<'_>, usize) -> Result<Expr, ParseError>> Descent<F> {
     /// `constant name = value;`
-    #[tactic(auto, using(crate::proofs::Levels::level_bound_1), unfolding(df_syntax::specs::Grammar::constant, df_forms::specs::Reading::read, df_cursor::specs::Reads::opened))]
     pub fn constant(&self, tokens: &mut Cursor<'_>) -> Result<Constant, ParseError>
         requires nests { Nests self.now.depth (F.pre self.now.expr) (F.post self.now.expr) }
         requires inside { 0 < self.now.depth }
@@ -166,7 +162,6 @@ impl<F: Fn(Global, &mut Cursor<'_>, usize) -> Result<Expr, ParseError>> Descent<
     }
 
     /// `range name [low, high];`
-    #[tactic(auto, using(crate::proofs::Levels::level_bound_1, crate::proofs::Levels::level_bounds_1), unfolding(df_syntax::specs::Grammar::range, df_forms::specs::Reading::read, df_cursor::specs::Reads::opened))]
     pub fn range(&self, tokens: &mut Cursor<'_>) -> Result<Range, ParseError>
         requires nests { Nests self.now.depth (F.pre self.now.expr) (F.post self.now.expr) }
         requires inside { 0 < self.now.depth }
@@ -194,7 +189,6 @@ impl<F: Fn(Global, &mut Cursor<'_>, usize) -> Result<Expr, ParseError>> Descent<
     }
 
     /// A function.
-    #[tactic(auto, using(crate::proofs::Levels::level_bound_1, crate::proofs::Levels::level_declared_2, crate::proofs::Levels::level_results_2, crate::proofs::Levels::level_exprs_1), unfolding(df_syntax::specs::Grammar::function, df_forms::specs::Reading::read, df_cursor::specs::Reads::opened))]
     pub fn function(&self, tokens: &mut Cursor<'_>) -> Result<Function, ParseError>
         requires nests { Nests self.now.depth (F.pre self.now.expr) (F.post self.now.expr) }
         requires inside { 0 < self.now.depth }
@@ -234,7 +228,6 @@ impl<F: Fn(Global, &mut Cursor<'_>, usize) -> Result<Expr, ParseError>> Descent<
     }
 
     /// A source.
-    #[tactic(auto, using(crate::proofs::Levels::level_constants_1, crate::proofs::Levels::level_ranges_1), unfolding(df_syntax::specs::Grammar::source, df_forms::specs::Reading::read, df_cursor::specs::Reads::opened))]
     pub fn source(&self, tokens: &mut Cursor<'_>) -> Result<Program, ParseError>
         requires nests { Nests self.now.depth (F.pre self.now.expr) (F.post self.now.expr) }
         requires inside { 0 < self.now.depth }

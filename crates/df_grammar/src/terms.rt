@@ -91,7 +91,6 @@ impl<F: Fn(Global, &mut Cursor<'_>, usize) -> Result<Expr, ParseError>> Descent<
     }
 
     /// An operator of a product and its right operand.
-    #[tactic(auto, using(crate::proofs::Levels::level_factor_op_0), unfolding(df_syntax::specs::Lines::factor_link, df_forms::specs::Reading::read, df_cursor::specs::Reads::opened))]
     pub fn factor_link(&self, tokens: &mut Cursor<'_>) -> Result<Link, ParseError>
         requires { Nests self.now.depth (F.pre self.now.expr) (F.post self.now.expr) }
         ensures { Reads (reads self.now.depth 0 read.factor_link tokens.old.rest.now) tokens.old.rest.now result tokens.new.rest.now }
@@ -116,7 +115,6 @@ impl<F: Fn(Global, &mut Cursor<'_>, usize) -> Result<Expr, ParseError>> Descent<
     }
 
     /// An operator of a sum and its right operand.
-    #[tactic(auto, using(crate::proofs::Levels::level_term_op_0), unfolding(df_syntax::specs::Lines::term_link, df_forms::specs::Reading::read, df_cursor::specs::Reads::opened))]
     pub fn term_link(&self, tokens: &mut Cursor<'_>) -> Result<Link, ParseError>
         requires { Nests self.now.depth (F.pre self.now.expr) (F.post self.now.expr) }
         ensures { Reads (reads self.now.depth 0 read.term_link tokens.old.rest.now) tokens.old.rest.now result tokens.new.rest.now }
@@ -172,7 +170,6 @@ impl<F: Fn(Global, &mut Cursor<'_>, usize) -> Result<Expr, ParseError>> Descent<
     }
 
     /// `&` and its right operand.
-    #[tactic(auto, unfolding(df_syntax::specs::Lines::inversion_link, df_forms::specs::Reading::read, df_cursor::specs::Reads::opened))]
     pub fn inversion_link(&self, tokens: &mut Cursor<'_>) -> Result<Link, ParseError>
         requires { Nests self.now.depth (F.pre self.now.expr) (F.post self.now.expr) }
         ensures { Reads (reads self.now.depth 0 read.inversion_link tokens.old.rest.now) tokens.old.rest.now result tokens.new.rest.now }
@@ -200,7 +197,6 @@ impl<F: Fn(Global, &mut Cursor<'_>, usize) -> Result<Expr, ParseError>> Descent<
     }
 
     /// `|` and its right operand.
-    #[tactic(auto, unfolding(df_syntax::specs::Lines::conjunction_link, df_forms::specs::Reading::read, df_cursor::specs::Reads::opened))]
     pub fn conjunction_link(&self, tokens: &mut Cursor<'_>) -> Result<Link, ParseError>
         requires { Nests self.now.depth (F.pre self.now.expr) (F.post self.now.expr) }
         ensures { Reads (reads self.now.depth 0 read.conjunction_link tokens.old.rest.now) tokens.old.rest.now result tokens.new.rest.now }
