@@ -129,11 +129,8 @@ module _ (all functions : List Function) (numbers : Numbers) (callable gives : N
     result_going s e demanded = by s (name_standing numbers made.names (form e)) demanded refl
       where
         by : (t : Sort) (x : Option Standing) → Demanded scope arrays made.names going.stand t e → name_standing numbers made.names (form e) ≡ x → Resulting (result_by numbers made t e x)
-        by (of.Basic b) (Some (standing.Scalar o)) demand_t is = let found = named_form numbers made.names (form e) (standing.Scalar o) is in result_plain o (going.places found.0 (standing.Scalar o) found.2)
+        by (of.Basic b) x demand_t is = result_block (of.Basic b) e (block_typed (of.Basic b) e demand_t (λ c o other at at2. cc))
         by (of.Array b) (Some (standing.Array o other)) demand_t is = let found = named_form numbers made.names (form e) (standing.Array o other) is in result_plain o (going.places found.0 (standing.Array o other) found.2)
-        by (of.Basic b) None demand_t is = result_block (of.Basic b) e (block_typed (of.Basic b) e demand_t (λ c o other at at2. cc))
-        by (of.Basic b) (Some (standing.Constant k)) demand_t is = result_block (of.Basic b) e (block_typed (of.Basic b) e demand_t (λ c o other at at2. cc))
-        by (of.Basic b) (Some (standing.Array o name)) demand_t is = result_block (of.Basic b) e (block_typed (of.Basic b) e demand_t (λ c o other at at2. cc))
         by (of.Array b) None demand_t is = result_block (of.Array b) e (block_typed (of.Array b) e demand_t (λ c o other at at2. let bad = sym is ∙ at2 in cc))
         by (of.Array b) (Some (standing.Constant k)) demand_t is = result_block (of.Array b) e (block_typed (of.Array b) e demand_t (λ c o other at at2. let bad = sym is ∙ at2 in cc))
         by (of.Array b) (Some (standing.Scalar o)) demand_t is = result_block (of.Array b) e (block_typed (of.Array b) e demand_t (λ c o2 other at at2. let bad = sym is ∙ at2 in cc))

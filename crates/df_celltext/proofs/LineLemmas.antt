@@ -11,10 +11,12 @@ use Rattle.df_cells.specs.declared.cells.Feed.{Feed}
 use Rattle.df_cells.specs.declared.kinds.Kind.{Kind}
 use Rattle.df_cells.specs.Kinds.{port_count, HasCanonicalRuns}
 use Rattle.df_cells.specs.Cells.{IsCell}
+use Rattle.df_celltext.specs.declared.version.Version.{Version}
+use Rattle.df_celltext.specs.Versions.{version_word}
 use Rattle.df_celltext.specs.CellText.{port_word, dest_word, kind_words}
 use Rattle.df_celltext.specs.Writable.{IsCount, IsWritableFeed, IsWritableDest, IsWritableKind, IsWritableCell}
 use Rattle.df_celltext.specs.Reading.{passed, nothing_after, stage, after_word, number_at, kind_at, feed_in, feeds_at, dest_in, dests_at, ends_in, depth_in, cell_in, count_in}
-use Rattle.df_celltext.proofs.OptionLemmas.{bind_ok, passed_some, some_same}
+use Rattle.df_celltext.proofs.OptionLemmas.{bind_ok, passed_some, some_same, bytes_same}
 use Rattle.df_celltext.proofs.NumberLemmas.{number_again}
 use Rattle.df_celltext.proofs.WordLemmas.{feed_again, feed_found, dest_again, dest_found}
 use Rattle.df_celltext.proofs.KindLemmas.{number_at_found, after_found, front_ok, IsReadKind, kind_again, kind_found}
@@ -205,29 +207,29 @@ cell_found number words found h =
 
 -- ---- the first line
 
-abbrev pub count_words : ℕ → List (List ℕ)
-count_words count = codes "dataflow" ∷ codes "1" ∷ decimal count ∷ []
+abbrev pub count_words : Version → ℕ → List (List ℕ)
+count_words version count = codes "dataflow" ∷ version_word version ∷ decimal count ∷ []
 
-pub count_again : (count : ℕ) → count ≤ 65536 → count_in (count_words count) ≡ Some (count, [])
+pub count_again : (version : Version) (count : ℕ) → count ≤ 65536 → count_in version (count_words version count) ≡ Some (count, [])
 unfolding count_in number_at after_word
-count_again count few =
+count_again version count few =
     let within : nat_le count 65536 ≡ true = le-leb _ _ few in
-    rw (number_again count (omega arith), within) refl
+    rw (bytes_same (version_word version) (version_word version) refl, number_again count (omega arith), within) refl
 
 nothing_ok : (x : ℕ) (rest : List (List ℕ)) (found : ℕ × List (List ℕ)) → nothing_after x rest ≡ Some found → (rest ≡ []) × (x ≡ found.0) × (found.1 ≡ [])
 nothing_ok x [] found h = let same : (x, []) ≡ found = cc in (refl, ap (λ p. p.0) same, ap (λ p. p.1) (sym same))
 nothing_ok x (word ∷ rest) found h = absurd (cc)
 
-pub count_found : (words : List (List ℕ)) (found : ℕ × List (List ℕ)) → count_in words ≡ Some found → (words ≡ count_words found.0) × (found.1 ≡ []) × (found.0 ≤ 65536)
+pub count_found : (version : Version) (words : List (List ℕ)) (found : ℕ × List (List ℕ)) → count_in version words ≡ Some found → (words ≡ count_words version found.0) × (found.1 ≡ []) × (found.0 ≤ 65536)
 unfolding count_in
-count_found words found h =
+count_found version words found h =
     let v = bind_ok (after_word (codes "dataflow") words) _ found h in
-    let o = bind_ok (after_word (codes "1") v.0) _ found v.2 in
+    let o = bind_ok (after_word (version_word version) v.0) _ found v.2 in
     let n = bind_ok (number_at o.0) _ found o.2 in
     let t = bind_ok (passed (nat_le n.0.0 65536) n.0.0) _ found n.2 in
     let e = nothing_ok n.0.0 n.0.1 found t.2 in
     let few : n.0.0 ≤ 65536 = leb-true n.0.0 65536 (passed_some (nat_le n.0.0 65536) n.0.0 t.0 t.1).0 in (
-      after_found (codes "dataflow") words v.0 v.1 ∙ ap (λ ws. codes "dataflow" ∷ ws) (after_found (codes "1") v.0 o.0 o.1 ∙ ap (λ ws. codes "1" ∷ ws) ((number_at_found o.0 n.0 n.1).0 ∙ ap (λ ws. decimal n.0.0 ∷ ws) e.0 ∙ ap (λ c. decimal c ∷ []) e.1)),
+      after_found (codes "dataflow") words v.0 v.1 ∙ ap (λ ws. codes "dataflow" ∷ ws) (after_found (version_word version) v.0 o.0 o.1 ∙ ap (λ ws. version_word version ∷ ws) ((number_at_found o.0 n.0 n.1).0 ∙ ap (λ ws. decimal n.0.0 ∷ ws) e.0 ∙ ap (λ c. decimal c ∷ []) e.1)),
       e.2,
       subst (λ c. c ≤ 65536) e.1 few,
     )

@@ -2,7 +2,8 @@
 use Rattle.std.proofs.Common.{◌≡◌, ℕ, ◌<◌, ◌≤◌, List, [], ◌∷◌, ◌++◌, length, refl, sym, ap, subst, ◌∙◌, append_assoc, length-append, arith}
 use Rattle.std.specs.List.{All}
 use Rattle.std.proofs.lemmas.List.Elements.{All-head, All-tail}
-use Rattle.df_celltext.specs.WrongLines.{with_feeds, IsLine, CanBegin, FirstWrongLine}
+use Rattle.df_celltext.specs.declared.version.Version.{Version}
+use Rattle.df_celltext.specs.WrongLines.{with_feeds, IsLine, CanBegin, FirstWrongLineIn}
 use Rattle.df_celltext.proofs.RowLemmas.{feeds-append}
 use Rattle.df_celltext.proofs.TextLemmas.{All-middle, feeds_cons, same_cut}
 
@@ -22,26 +23,26 @@ goes_on (l ∷ front) (m ∷ lines) more behind p q short e =
     let g : GoesOn front lines more behind = goes_on front lines more behind (All-tail IsLine l front p) (All-tail IsLine m lines q) (omega arith) both.1 in
     record { tail = g.tail; lines_are = ap (λ x. x ∷ lines) (sym both.0) ∙ ap (λ ls. l ∷ ls) g.lines_are; rest = g.rest }
 
-begins_with_less : (front tail lines : List (List ℕ)) → lines ≡ front ++ tail → CanBegin lines → CanBegin front
-begins_with_less front tail lines e h =
+begins_with_less : (version : Version) (front tail lines : List (List ℕ)) → lines ≡ front ++ tail → CanBegin version lines → CanBegin version front
+begins_with_less version front tail lines e h =
     let regrouped : with_feeds front ++ (with_feeds tail ++ h.1) ≡ with_feeds lines ++ h.1
     = sym (append_assoc (with_feeds front) (with_feeds tail) h.1) ∙ ap (λ l. l ++ h.1) (sym (feeds-append front tail)) ∙ ap (λ ls. with_feeds ls ++ h.1) (sym e) in
     (h.0, with_feeds tail ++ h.1, (h.2.0, regrouped ∙ h.2.1))
 
-later_line : (front lines tail : List (List ℕ)) (more behind : List ℕ) → All IsLine lines → length front < length lines → lines ≡ front ++ tail → more ≡ with_feeds tail ++ behind → CanBegin lines
-    → ((line later : List ℕ) → IsLine line → more ≡ line ++ 10 ∷ later → CanBegin (front ++ line ∷ []) → ⊥) → ⊥
-later_line front lines [] more behind q short e r can wrong = omega (arith, ap length e, length-append front [])
-later_line front lines (line ∷ tail) more behind q short e r can wrong =
+later_line : (version : Version) (front lines tail : List (List ℕ)) (more behind : List ℕ) → All IsLine lines → length front < length lines → lines ≡ front ++ tail → more ≡ with_feeds tail ++ behind → CanBegin version lines
+    → ((line later : List ℕ) → IsLine line → more ≡ line ++ 10 ∷ later → CanBegin version (front ++ line ∷ []) → ⊥) → ⊥
+later_line version front lines [] more behind q short e r can wrong = omega (arith, ap length e, length-append front [])
+later_line version front lines (line ∷ tail) more behind q short e r can wrong =
     wrong line (with_feeds tail ++ behind) (All-middle IsLine front tail line (subst (All IsLine) e q)) (r ∙ feeds_cons line tail behind)
-    (begins_with_less (front ++ line ∷ []) tail lines (e ∙ sym (append_assoc front (line ∷ []) tail)) can)
+    (begins_with_less version (front ++ line ∷ []) tail lines (e ∙ sym (append_assoc front (line ∷ []) tail)) can)
 
-no_later : (text : List ℕ) (m n : ℕ) → FirstWrongLine text m → FirstWrongLine text n → m < n → ⊥
-no_later text m n g h less =
+no_later : (version : Version) (text : List ℕ) (m n : ℕ) → FirstWrongLineIn version text m → FirstWrongLineIn version text n → m < n → ⊥
+no_later version text m n g h less =
     let w : GoesOn g.before h.before g.rest h.rest = goes_on g.before h.before g.rest h.rest g.whole h.whole (omega (arith, g.number, h.number)) (sym g.parts ∙ h.parts) in
-    later_line g.before h.before w.tail g.rest h.rest h.whole (omega (arith, g.number, h.number)) w.lines_are w.rest h.possible g.wrong
+    later_line version g.before h.before w.tail g.rest h.rest h.whole (omega (arith, g.number, h.number)) w.lines_are w.rest h.possible g.wrong
 
-pub one_wrong_line : (text : List ℕ) (m n : ℕ) → FirstWrongLine text m → FirstWrongLine text n → m ≡ n
-one_wrong_line text m n g h =
-    let below : m < n → ⊥ = no_later text m n g h in
-    let above : n < m → ⊥ = no_later text n m h g in
+pub one_wrong_line : (version : Version) (text : List ℕ) (m n : ℕ) → FirstWrongLineIn version text m → FirstWrongLineIn version text n → m ≡ n
+one_wrong_line version text m n g h =
+    let below : m < n → ⊥ = no_later version text m n g h in
+    let above : n < m → ⊥ = no_later version text n m h g in
     omega arith

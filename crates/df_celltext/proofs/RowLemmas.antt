@@ -7,13 +7,16 @@ use Rattle.std.proofs.lemmas.Grind.{flat_map-append}
 use Rattle.std.proofs.lemmas.List.Elements.{All-nil, All-cons, All-head, All-tail, All-append}
 use Rattle.std.proofs.lemmas.List.Splits.{join_with_byte-slice_split}
 use Rattle.df_cells.specs.declared.cells.Cell.{Cell}
-use Rattle.df_celltext.specs.CellText.{spaced, port_word, dest_word, kind_words, cell_line, cell_lines, cell_text}
+use Rattle.df_celltext.specs.CellText.{spaced, port_word, dest_word, kind_words, cell_line, cell_lines, version_text}
+use Rattle.df_celltext.specs.declared.version.Version.{Version}
+use Rattle.df_celltext.specs.declared.version.Version.TheVariants.{One, Two}
+use Rattle.df_celltext.specs.Versions.{version_word}
 use Rattle.df_celltext.specs.Cuts.{words_of}
 use Rattle.df_celltext.specs.Writable.{IsCount, IsWritableCell}
 use Rattle.df_celltext.specs.WrongLines.{with_feeds, IsLine}
 use Rattle.df_celltext.specs.Reading.{stage}
 use Rattle.df_celltext.proofs.LineLemmas.{later_words, cell_words, count_words}
-use Rattle.df_celltext.proofs.SolidLemmas.{decimal_solid, cell_solid, row_lacks, words_of_row}
+use Rattle.df_celltext.proofs.SolidLemmas.{Solid, decimal_solid, cell_solid, row_lacks, words_of_row}
 
 -- the words of a line in a row
 abbrev pub row_of : List (List ℕ) → List ℕ
@@ -34,14 +37,18 @@ row_of_words line = sym (join_with_byte-slice_split 32 line) ∙ joined (words_o
 
 -- ---- the first line
 
-abbrev pub header : ℕ → List ℕ
-header count = row_of (count_words count)
+abbrev pub header : Version → ℕ → List ℕ
+header version count = row_of (count_words version count)
 
-pub words_of_header : (count : ℕ) → IsCount count → words_of (header count) ≡ count_words count
-words_of_header count small = words_of_row (codes "dataflow") (codes "1" ∷ decimal count ∷ []) refl (refl, (decimal_solid count small, tt))
+version_solid : (version : Version) → Solid (version_word version)
+version_solid One = refl
+version_solid Two = refl
 
-pub header_is_line : (count : ℕ) → IsCount count → IsLine (header count)
-header_is_line count small = row_lacks (codes "dataflow") (codes "1" ∷ decimal count ∷ []) refl (refl, (decimal_solid count small, tt))
+pub words_of_header : (version : Version) (count : ℕ) → IsCount count → words_of (header version count) ≡ count_words version count
+words_of_header version count small = words_of_row (codes "dataflow") (version_word version ∷ decimal count ∷ []) refl (version_solid version, (decimal_solid count small, tt))
+
+pub header_is_line : (version : Version) (count : ℕ) → IsCount count → IsLine (header version count)
+header_is_line version count small = row_lacks (codes "dataflow") (version_word version ∷ decimal count ∷ []) refl (version_solid version, (decimal_solid count small, tt))
 
 -- ---- the line of a cell
 
@@ -71,8 +78,8 @@ abbrev pub rows : ℕ → List Cell → List (List ℕ)
 rows number [] = []
 rows number (cell ∷ cells) = cell_row number cell ∷ rows (number + 1) cells
 
-abbrev pub text_lines : List Cell → List (List ℕ)
-text_lines cells = header (length cells) ∷ (rows 0 cells ++ codes "end" ∷ [])
+abbrev pub text_lines : Version → List Cell → List (List ℕ)
+text_lines version cells = header version (length cells) ∷ (rows 0 cells ++ codes "end" ∷ [])
 
 pub feeds-append : (v w : List (List ℕ)) → with_feeds (v ++ w) ≡ with_feeds v ++ with_feeds w
 feeds-append v w = flat_map-append (λ line. line ++ 10 ∷ []) v w
@@ -84,11 +91,16 @@ lines_are_rows number (cell ∷ cells) = rw (line_is_row number cell, lines_are_
 regroup_text : (h c z r e : List ℕ) → h ++ c ++ z ++ r ++ e ≡ ((h ++ (c ++ [])) ++ z) ++ (r ++ e)
 regroup_text h c z r e = simp (append_assoc, append-nil)
 
-pub text_is_lines : (cells : List Cell) → cell_text cells ≡ with_feeds (text_lines cells)
-text_is_lines cells =
-    ap (λ l. codes "dataflow 1 " ++ decimal (length cells) ++ codes "\n" ++ l ++ codes "end\n") (lines_are_rows 0 cells)
-    ∙ regroup_text (codes "dataflow 1 ") (decimal (length cells)) (codes "\n") (with_feeds (rows 0 cells)) (codes "end\n")
-    ∙ ap (λ l. (header (length cells) ++ 10 ∷ []) ++ l) (sym (feeds-append (rows 0 cells) (codes "end" ∷ [])))
+pub text_is_lines : (version : Version) (cells : List Cell) → version_text version cells ≡ with_feeds (text_lines version cells)
+text_is_lines version cells =
+    ap (λ l. codes "dataflow " ++ version_word version ++ codes " " ++ decimal (length cells) ++ codes "\n" ++ l ++ codes "end\n") (lines_are_rows 0 cells)
+    ∙ by_version version
+    ∙ ap (λ l. (header version (length cells) ++ 10 ∷ []) ++ l) (sym (feeds-append (rows 0 cells) (codes "end" ∷ [])))
+  where
+    by_version : (v : Version) → codes "dataflow " ++ version_word v ++ codes " " ++ decimal (length cells) ++ codes "\n" ++ with_feeds (rows 0 cells) ++ codes "end\n"
+        ≡ (header v (length cells) ++ 10 ∷ []) ++ (with_feeds (rows 0 cells) ++ codes "end\n")
+    by_version One = regroup_text (codes "dataflow 1 ") (decimal (length cells)) (codes "\n") (with_feeds (rows 0 cells)) (codes "end\n")
+    by_version Two = regroup_text (codes "dataflow 2 ") (decimal (length cells)) (codes "\n") (with_feeds (rows 0 cells)) (codes "end\n")
 
 pub length-rows : (number : ℕ) (cells : List Cell) → length (rows number cells) ≡ length cells
 length-rows number [] = refl
@@ -106,7 +118,7 @@ rows_are_lines number (cell ∷ cells) small all =
     All-cons IsLine (cell_row number cell) (rows (number + 1) cells) (cell_row_is_line number cell (omega arith) (All-head IsWritableCell cell cells all))
     (rows_are_lines (number + 1) cells (omega arith) (All-tail IsWritableCell cell cells all))
 
-pub text_lines_are_lines : (cells : List Cell) → length cells ≤ 65536 → All IsWritableCell cells → All IsLine (text_lines cells)
-text_lines_are_lines cells few all =
-    All-cons IsLine (header (length cells)) (rows 0 cells ++ codes "end" ∷ []) (header_is_line (length cells) (omega arith))
+pub text_lines_are_lines : (version : Version) (cells : List Cell) → length cells ≤ 65536 → All IsWritableCell cells → All IsLine (text_lines version cells)
+text_lines_are_lines version cells few all =
+    All-cons IsLine (header version (length cells)) (rows 0 cells ++ codes "end" ∷ []) (header_is_line version (length cells) (omega arith))
     (All-append IsLine (rows 0 cells) (codes "end" ∷ []) (rows_are_lines 0 cells (omega arith) all) (All-cons IsLine (codes "end") [] refl (All-nil IsLine)))

@@ -22,7 +22,7 @@ use Rattle.df_values.proofs.Limits.{small_from_ordinary}
 use Rattle.df_cells.specs.declared.cells.Cell.{Cell}
 use Rattle.df_cells.specs.declared.cells.Dest.{Dest}
 use Rattle.df_cells.specs.declared.cells.Feed.{Feed}
-use Rattle.df_cells.specs.declared.cells.Feed.TheVariants.{Arc, Constant}
+use Rattle.df_cells.specs.declared.cells.Feed.TheVariants.{Arc, Constant, Loaded}
 use Rattle.df_cells.specs.declared.kinds.Run.{Run}
 use Rattle.df_cells.specs.declared.kinds.Kind.{Kind}
 use Rattle.df_cells.specs.declared.kinds.Kind.TheVariants as kind
@@ -107,6 +107,8 @@ runs_solid (r ∷ runs) all = (run_solid r (All-head IsWritableRun r runs all), 
 port_solid : (f : Feed) → IsWritableFeed f → Solid (port_word f)
 port_solid (Arc u) h = solid-append (codes "@") (decimal u.0) refl (decimal_solid u.0 h)
 port_solid (Constant v) h = solid-append (codes "=") (spelled v) refl (spelled_solid v h)
+port_solid (Loaded u v) h =
+    solid-append (codes "@" ++ decimal u.0 ++ codes "!") (spelled v) (solid-append (codes "@" ++ decimal u.0) (codes "!") (solid-append (codes "@") (decimal u.0) refl (decimal_solid u.0 h.0)) refl) (spelled_solid v h.1)
 
 ports_solid : (feeds : List Feed) → All IsWritableFeed feeds → AreSolid (map port_word feeds)
 ports_solid [] all = tt

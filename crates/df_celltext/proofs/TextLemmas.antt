@@ -1,12 +1,14 @@
 -- How a text begins, line by line.
 use Rattle.std.proofs.Common.{◌≡◌, ℕ, ◌+◌, ◌<◌, ◌≤◌, List, [], ◌∷◌, ◌++◌, Some, length, refl, sym, ap, ◌∙◌, append_assoc, append-nil, arith}
-use Rattle.std.specs.Prelude.{codes}
+use Rattle.std.specs.Prelude.{codes, IsTrue}
 use Rattle.std.specs.List.{All}
 use Rattle.std.proofs.lemmas.List.Elements.{All-head, All-tail}
 use Rattle.df_cells.specs.declared.cells.Cell.{Cell}
 use Rattle.df_cells.specs.Cells.{IsCell}
+use Rattle.df_celltext.specs.declared.version.Version.{Version}
+use Rattle.df_celltext.specs.Versions.{has_cell}
 use Rattle.df_celltext.specs.Cuts.{cut_at, words_of}
-use Rattle.df_celltext.specs.Writable.{IsCount, IsWritableCell, IsTextOf}
+use Rattle.df_celltext.specs.Writable.{IsCount, IsWritableCell, IsTextIn}
 use Rattle.df_celltext.specs.WrongLines.{with_feeds, IsLine}
 use Rattle.df_celltext.specs.Reading.{count_in, cell_in}
 use Rattle.df_celltext.proofs.OptionLemmas.{some_same, some_none}
@@ -54,42 +56,45 @@ begin (l ∷ front) (m ∷ lines) more p q e =
     let b : Begin front more lines = begin front lines more (All-tail IsLine l front p) (All-tail IsLine m lines q) (both.1 ∙ append-nil (with_feeds lines)) in
     record { tail = b.tail; lines_are = ap (λ x. x ∷ lines) (sym both.0) ∙ ap (λ ls. l ∷ ls) b.lines_are; rest = b.rest }
 
-pub text_begins : (front : List (List ℕ)) (more : List ℕ) (cells : List Cell) → All IsLine front → IsTextOf (with_feeds front ++ more) cells → Begin front more (text_lines cells)
-text_begins front more cells p h =
-    begin front (text_lines cells) more p (text_lines_are_lines cells h.0.shaped.few h.0.each) (h.1 ∙ text_is_lines cells)
+pub text_begins : (version : Version) (front : List (List ℕ)) (more : List ℕ) (cells : List Cell) → All IsLine front → IsTextIn version (with_feeds front ++ more) cells → Begin front more (text_lines version cells)
+text_begins version front more cells p h =
+    begin front (text_lines version cells) more p (text_lines_are_lines version cells h.0.shaped.few h.0.each) (h.1 ∙ text_is_lines version cells)
 
 -- ---- what lines tell
 
-pub count_told : (count : ℕ) → count ≤ 65536 → count_in (words_of (header count)) ≡ Some (count, [])
-count_told count few = ap count_in (words_of_header count (omega arith)) ∙ count_again count few
+pub count_told : (version : Version) (count : ℕ) → count ≤ 65536 → count_in version (words_of (header version count)) ≡ Some (count, [])
+count_told version count few = ap (count_in version) (words_of_header version count (omega arith)) ∙ count_again version count few
 
-pub header_tells : (m n : ℕ) → m ≤ 65536 → n ≤ 65536 → header m ≡ header n → m ≡ n
-header_tells m n p q e =
-    ap (λ x. x.0) (some_same (m, []) (n, []) (sym (count_told m p) ∙ ap (λ l. count_in (words_of l)) e ∙ count_told n q))
+pub header_tells : (version : Version) (m n : ℕ) → m ≤ 65536 → n ≤ 65536 → header version m ≡ header version n → m ≡ n
+header_tells version m n p q e =
+    ap (λ x. x.0) (some_same (m, []) (n, []) (sym (count_told version m p) ∙ ap (λ l. count_in version (words_of l)) e ∙ count_told version n q))
 
 pub cell_told : (number : ℕ) (cell : Cell) → IsCount number → IsCell cell → IsWritableCell cell → cell_in number (words_of (cell_row number cell)) ≡ Some (cell, [])
 cell_told number cell small shaped good = ap (cell_in number) (words_of_cell number cell small good) ∙ cell_again number cell small shaped good
 
 -- the line at a place of the rows is that of a cell
-pub record IsRowOf (number : ℕ) (line : List ℕ) : Type 0 where
+pub record IsRowOf (version : Version) (number : ℕ) (line : List ℕ) : Type 0 where
   pub cell : Cell
   pub is : line ≡ cell_row number cell
   pub shaped : IsCell cell
   pub within : IsWritableCell cell
+  pub has : IsTrue (has_cell version cell)
 
-pub row_at : (number at : ℕ) (cells : List Cell) (front : List (List ℕ)) (line : List ℕ) (end tail : List (List ℕ)) → All IsCell cells → All IsWritableCell cells
-    → rows number cells ++ end ≡ front ++ line ∷ tail → length front < length cells → at ≡ number + length front → IsRowOf at line
-row_at number at [] front line end tail p q e within k = absurd (omega arith)
-row_at number at (cell ∷ cells) [] line end tail p q e within k =
+pub row_at : (version : Version) (number at : ℕ) (cells : List Cell) (front : List (List ℕ)) (line : List ℕ) (end tail : List (List ℕ)) → All IsCell cells → All IsWritableCell cells
+    → All (λ cell. IsTrue (has_cell version cell)) cells → rows number cells ++ end ≡ front ++ line ∷ tail → length front < length cells → at ≡ number + length front → IsRowOf version at line
+row_at version number at [] front line end tail p q r e within k = absurd (omega arith)
+row_at version number at (cell ∷ cells) [] line end tail p q r e within k =
     let here : number ≡ at = omega arith in
     record {
       cell = cell;
       is = sym (cons_head _ _ _ _ e) ∙ ap (λ n. cell_row n cell) here;
       shaped = All-head IsCell cell cells p;
       within = All-head IsWritableCell cell cells q;
+      has = All-head (λ cell. IsTrue (has_cell version cell)) cell cells r;
     }
-row_at number at (cell ∷ cells) (f ∷ front) line end tail p q e within k =
-    row_at (number + 1) at cells front line end tail (All-tail IsCell cell cells p) (All-tail IsWritableCell cell cells q) (cons_tail _ _ _ _ e) (omega arith) (omega arith)
+row_at version number at (cell ∷ cells) (f ∷ front) line end tail p q r e within k =
+    row_at version (number + 1) at cells front line end tail (All-tail IsCell cell cells p) (All-tail IsWritableCell cell cells q) (All-tail (λ cell. IsTrue (has_cell version cell)) cell cells r)
+    (cons_tail _ _ _ _ e) (omega arith) (omega arith)
 
 -- behind the rows of all cells stands the last line
 pub end_at : (number : ℕ) (cells : List Cell) (front end tail : List (List ℕ)) → rows number cells ++ end ≡ front ++ tail → length front ≡ length cells → end ≡ tail
@@ -112,12 +117,13 @@ rows_tell number (c ∷ a) (d ∷ b) x y small p q r s same e =
     ap (λ z. z ∷ a) first ∙ ap (λ l. d ∷ l)
     (rows_tell (number + 1) a b x y (omega arith) (All-tail IsCell c a p) (All-tail IsWritableCell c a q) (All-tail IsCell d b r) (All-tail IsWritableCell d b s) (omega arith) (cons_tail _ _ _ _ e))
 
-pub one_list : (text : List ℕ) (a b : List Cell) → IsTextOf text a → IsTextOf text b → a ≡ b
-one_list text a b g h =
-    let lines_a = text_lines_are_lines a g.0.shaped.few g.0.each in
-    let lines_b = text_lines_are_lines b h.0.shaped.few h.0.each in
-    let same : with_feeds (text_lines a) ++ [] ≡ with_feeds (text_lines b) = append-nil (with_feeds (text_lines a)) ∙ sym (text_is_lines a) ∙ sym g.1 ∙ h.1 ∙ text_is_lines b in
-    let t : Begin (text_lines a) [] (text_lines b) = begin (text_lines a) (text_lines b) [] lines_a lines_b same in
-    let count : length a ≡ length b = header_tells (length a) (length b) g.0.shaped.few h.0.shaped.few (sym (cons_head _ _ _ _ t.lines_are)) in
+pub one_list : (version : Version) (text : List ℕ) (a b : List Cell) → IsTextIn version text a → IsTextIn version text b → a ≡ b
+one_list version text a b g h =
+    let lines_a = text_lines_are_lines version a g.0.shaped.few g.0.each in
+    let lines_b = text_lines_are_lines version b h.0.shaped.few h.0.each in
+    let same : with_feeds (text_lines version a) ++ [] ≡ with_feeds (text_lines version b)
+    = append-nil (with_feeds (text_lines version a)) ∙ sym (text_is_lines version a) ∙ sym g.1 ∙ h.1 ∙ text_is_lines version b in
+    let t : Begin (text_lines version a) [] (text_lines version b) = begin (text_lines version a) (text_lines version b) [] lines_a lines_b same in
+    let count : length a ≡ length b = header_tells version (length a) (length b) g.0.shaped.few h.0.shaped.few (sym (cons_head _ _ _ _ t.lines_are)) in
     rows_tell 0 a b ((codes "end" ∷ []) ++ t.tail) (codes "end" ∷ []) (omega (arith, g.0.shaped.few)) g.0.shaped.each g.0.each h.0.shaped.each h.0.each count
     (sym (append_assoc (rows 0 a) (codes "end" ∷ []) t.tail) ∙ sym (cons_tail _ _ _ _ t.lines_are))

@@ -16,15 +16,15 @@ use Rattle.df_values.specs.declared.values.ErrorValue.TheVariants.{Undef, MissEl
 use Rattle.df_values.proofs.SpellingLemmas.{one_value}
 use Rattle.df_cells.specs.declared.cells.Dest.{Dest}
 use Rattle.df_cells.specs.declared.cells.Feed.{Feed}
-use Rattle.df_cells.specs.declared.cells.Feed.TheVariants.{Arc, Constant}
+use Rattle.df_cells.specs.declared.cells.Feed.TheVariants.{Arc, Constant, Loaded}
 use Rattle.df_cells.specs.declared.kinds.Run.{Run}
 use Rattle.df_celltext.specs.CellText.{run_word, port_word, dest_word, spelled_basic}
 use Rattle.df_celltext.specs.Cuts.{cut_at}
 use Rattle.df_celltext.specs.Writable.{IsCount, IsWritableRun, IsWritableFeed, IsWritableDest}
-use Rattle.df_celltext.specs.Reading.{◌>>=◌, named_in, or_else, number_in, integer_in, value_words, value_in, feed_in, dest_in, run_in, basic_words}
+use Rattle.df_celltext.specs.Reading.{◌>>=◌, named_in, or_else, number_in, integer_in, value_words, value_in, arc_from, arc_in, feed_in, dest_in, run_in, basic_words}
 use Rattle.df_celltext.proofs.OptionLemmas.{none_from, bind_ok, passed_some, both_true, same_bytes, differ, differing}
 use Rattle.df_celltext.proofs.NumberLemmas.{number_again, number_found, integer_again, integer_found, not_false}
-use Rattle.df_celltext.proofs.CutLemmas.{Lacks, CutsTo, cuts, cut_again}
+use Rattle.df_celltext.proofs.CutLemmas.{Lacks, CutsTo, cuts, cut_again, cut_none}
 
 -- ---- tables
 
@@ -109,32 +109,6 @@ basic_again basic.Boolean = refl
 pub basic_found : (word : List ℕ) (b : Basic) → named_in basic_words word ≡ Some b → word ≡ spelled_basic b
 basic_found word b h = (named_found spelled_basic (λ b. Unit {0}) basic_words basics_are_spelled word b h).0
 
--- ---- what feeds a port
-
-pub feed_again : (f : Feed) → IsWritableFeed f → feed_in (port_word f) ≡ Some f
-unfolding feed_in
-feed_again (Arc u) h = rw (number_again u.0 h) refl
-feed_again (Constant v) h = rw (value_again v h) refl
-
-feed_by : (b : ℕ) (word : List ℕ) (f : Feed) (s t : Bool) → (b == 64) ≡ s → (b == 61) ≡ t
-    → cond s (number_in word >>= λ n. Some (Arc (record { 0 = n }))) (cond t (value_in word >>= λ v. Some (Constant v)) None) ≡ Some f → ((b ∷ word) ≡ port_word f) × IsWritableFeed f
-feed_by b word f true t here there h =
-    let k = bind_ok (number_in word) (λ n. Some (Arc (record { 0 = n }))) f h in
-    let p = number_found word k.0 k.1 in
-    let same : Arc (record { 0 = k.0 }) ≡ f = let g = k.2 in cc in
-    (ap (λ x. x ∷ word) (eqb-true b 64 here) ∙ ap (λ w. 64 ∷ w) p.0 ∙ ap port_word same, subst IsWritableFeed same p.1)
-feed_by b word f false true here there h =
-    let k = bind_ok (value_in word) (λ v. Some (Constant v)) f h in
-    let p = value_found word k.0 k.1 in
-    let same : Constant k.0 ≡ f = let g = k.2 in cc in
-    (ap (λ x. x ∷ word) (eqb-true b 61 there) ∙ ap (λ w. 61 ∷ w) p.0 ∙ ap port_word same, subst IsWritableFeed same p.1)
-feed_by b word f false false here there h = absurd (cc)
-
-pub feed_found : (word : List ℕ) (f : Feed) → feed_in word ≡ Some f → (word ≡ port_word f) × IsWritableFeed f
-unfolding feed_in
-feed_found [] f h = absurd (cc)
-feed_found (b ∷ word) f h = feed_by b word f (b == 64) (b == 61) refl refl h
-
 -- ---- decimals have digits alone
 
 digits_lack : (mark : ℕ) (ds : List ℕ) → mark < 48 → AllDigits 10 ds → Lacks mark ds
@@ -149,6 +123,54 @@ decimal_lacks mark n small count = digits_lack mark (decimal n) small (decimal_i
 
 pub cut_found : (mark : ℕ) (word : List ℕ) (parts : List ℕ × List ℕ) → cut_at mark word ≡ Some parts → word ≡ parts.0 ++ mark ∷ parts.1
 cut_found mark word parts e = (subst (CutsTo mark word) e (cuts mark word)).parts
+
+-- ---- what feeds a port
+
+pub feed_again : (f : Feed) → IsWritableFeed f → feed_in (port_word f) ≡ Some f
+unfolding feed_in arc_in
+feed_again (Arc u) h = rw (cut_none 33 (decimal u.0) (decimal_lacks 33 u.0 (omega arith) h), number_again u.0 h) refl
+feed_again (Constant v) h = rw (value_again v h) refl
+feed_again (Loaded u v) h =
+    let cut : cut_at 33 (decimal u.0 ++ codes "!" ++ spelled v) ≡ Some (decimal u.0, spelled v)
+    = ap (cut_at 33) (append_assoc (decimal u.0) (codes "!") (spelled v)) ∙ cut_again 33 (decimal u.0) (spelled v) (decimal_lacks 33 u.0 (omega arith) h.0) in
+    rw (cut, number_again u.0 h.0, value_again v h.1) refl
+
+arc_by : (word : List ℕ) (f : Feed) (o : Option (List ℕ × List ℕ)) → cut_at 33 word ≡ o → arc_from word o ≡ Some f → ((64 ∷ word) ≡ port_word f) × IsWritableFeed f
+arc_by word f None cut h =
+    let k = bind_ok (number_in word) (λ n. Some (Arc (record { 0 = n }))) f h in
+    let p = number_found word k.0 k.1 in
+    let same : Arc (record { 0 = k.0 }) ≡ f = let g = k.2 in cc in
+    (ap (λ w. 64 ∷ w) p.0 ∙ ap port_word same, subst IsWritableFeed same p.1)
+arc_by word f (Some parts) cut h =
+    let k = bind_ok (number_in parts.0) _ f h in
+    let v = bind_ok (value_in parts.1) _ f k.2 in
+    let p = number_found parts.0 k.0 k.1 in
+    let q = value_found parts.1 v.0 v.1 in
+    let same : Loaded (record { 0 = k.0 }) v.0 ≡ f = let g = v.2 in cc in (
+      ap (λ w. 64 ∷ w) (cut_found 33 word parts cut ∙ ap (λ x. x ++ 33 ∷ parts.1) p.0 ∙ ap (λ x. decimal k.0 ++ 33 ∷ x) q.0 ∙ sym (append_assoc (decimal k.0) (codes "!") (spelled v.0))) ∙ ap port_word same,
+      subst IsWritableFeed same (p.1, q.1),
+    )
+
+arc_found : (word : List ℕ) (f : Feed) → arc_in word ≡ Some f → ((64 ∷ word) ≡ port_word f) × IsWritableFeed f
+unfolding arc_in
+arc_found word f h = arc_by word f (cut_at 33 word) refl h
+
+feed_by : (b : ℕ) (word : List ℕ) (f : Feed) (s t : Bool) → (b == 64) ≡ s → (b == 61) ≡ t
+    → cond s (arc_in word) (cond t (value_in word >>= λ v. Some (Constant v)) None) ≡ Some f → ((b ∷ word) ≡ port_word f) × IsWritableFeed f
+feed_by b word f true t here there h =
+    let p = arc_found word f h in
+    (ap (λ x. x ∷ word) (eqb-true b 64 here) ∙ p.0, p.1)
+feed_by b word f false true here there h =
+    let k = bind_ok (value_in word) (λ v. Some (Constant v)) f h in
+    let p = value_found word k.0 k.1 in
+    let same : Constant k.0 ≡ f = let g = k.2 in cc in
+    (ap (λ x. x ∷ word) (eqb-true b 61 there) ∙ ap (λ w. 61 ∷ w) p.0 ∙ ap port_word same, subst IsWritableFeed same p.1)
+feed_by b word f false false here there h = absurd (cc)
+
+pub feed_found : (word : List ℕ) (f : Feed) → feed_in word ≡ Some f → (word ≡ port_word f) × IsWritableFeed f
+unfolding feed_in
+feed_found [] f h = absurd (cc)
+feed_found (b ∷ word) f h = feed_by b word f (b == 64) (b == 61) refl refl h
 
 -- ---- destinations
 

@@ -9,9 +9,12 @@ use Rattle.df_cells.specs.declared.cells.Cell.{Cell}
 use Rattle.df_cells.specs.declared.kinds.Run.{Run}
 use Rattle.df_cells.specs.declared.cells.Dest.{Dest}
 use Rattle.df_cells.specs.declared.cells.Feed.{Feed}
-use Rattle.df_cells.specs.declared.cells.Feed.TheVariants.{Arc, Constant}
+use Rattle.df_cells.specs.declared.cells.Feed.TheVariants.{Arc, Constant, Loaded}
 use Rattle.df_cells.specs.declared.kinds.Kind.{Kind}
 use Rattle.df_cells.specs.declared.kinds.Kind.TheVariants as kind
+use Rattle.df_celltext.specs.declared.version.Version.{Version}
+use Rattle.df_celltext.specs.declared.version.Version.TheVariants.{Two}
+use Rattle.df_celltext.specs.Versions.{version_word}
 
 abbrev pub spelled_basic : Basic → List ℕ
 spelled_basic basic.Integer = codes "integer"
@@ -21,13 +24,14 @@ spelled_basic basic.Boolean = codes "boolean"
 abbrev pub spaced : List (List ℕ) → List ℕ
 spaced words = flat_map (λ word. codes " " ++ word) words
 
--- a run as COUNT*VALUE, a port as @CELL or =VALUE, a destination as CELL.PORT
+-- a run as COUNT*VALUE, a port as @CELL, =VALUE or @CELL!VALUE, a destination as CELL.PORT
 abbrev pub run_word : Run → List ℕ
 run_word r = decimal r.count ++ codes "*" ++ spelled r.value
 
 abbrev pub port_word : Feed → List ℕ
 port_word (Arc u) = codes "@" ++ decimal u.0
 port_word (Constant v) = codes "=" ++ spelled v
+port_word (Loaded u v) = codes "@" ++ decimal u.0 ++ codes "!" ++ spelled v
 
 abbrev pub dest_word : Dest → List ℕ
 dest_word d = decimal d.cell.0 ++ codes "." ++ decimal d.port.0
@@ -79,5 +83,9 @@ abbrev pub cell_lines : ℕ → List Cell → List ℕ
 cell_lines number [] = []
 cell_lines number (cell ∷ cells) = cell_line number cell ++ cell_lines (number + 1) cells
 
+abbrev pub version_text : Version → List Cell → List ℕ
+version_text version cells = codes "dataflow " ++ version_word version ++ codes " " ++ decimal (length cells) ++ codes "\n" ++ cell_lines 0 cells ++ codes "end\n"
+
+-- the text that is written, of version 2
 abbrev pub cell_text : List Cell → List ℕ
-cell_text cells = codes "dataflow 1 " ++ decimal (length cells) ++ codes "\n" ++ cell_lines 0 cells ++ codes "end\n"
+cell_text cells = version_text Two cells

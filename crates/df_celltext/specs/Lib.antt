@@ -1,3 +1,4 @@
+pub mod Versions
 pub mod CellText
 pub mod PlainKinds
 pub mod Writable

@@ -12,13 +12,15 @@ use Rattle.df_values.specs.declared.values.ErrorValue.TheVariants.{Undef, MissEl
 use Rattle.df_cells.specs.declared.cells.Cell.{Cell}
 use Rattle.df_cells.specs.declared.cells.Dest.{Dest}
 use Rattle.df_cells.specs.declared.cells.Feed.{Feed}
-use Rattle.df_cells.specs.declared.cells.Feed.TheVariants.{Arc, Constant}
+use Rattle.df_cells.specs.declared.cells.Feed.TheVariants.{Arc, Constant, Loaded}
 use Rattle.df_cells.specs.declared.kinds.Run.{Run}
 use Rattle.df_cells.specs.declared.kinds.Kind.{Kind}
 use Rattle.df_cells.specs.declared.kinds.Kind.TheVariants as kind
 use Rattle.df_cells.specs.Kinds.{port_count}
 use Rattle.df_celltext.specs.declared.words.LineAnswer.{LineAnswer}
 use Rattle.df_celltext.specs.declared.words.LineAnswer.TheVariants.{Wrong, Memory}
+use Rattle.df_celltext.specs.declared.version.Version.{Version}
+use Rattle.df_celltext.specs.Versions.{version_word, has_cell}
 use Rattle.df_celltext.specs.Writable.{is_name}
 use Rattle.df_celltext.specs.Cuts.{cut_at, words_of}
 
@@ -67,9 +69,17 @@ value_words =
 unfoldable pub value_in : List ℕ → Option Value
 value_in word = or_else (named_in value_words word) (integer_in word >>= λ z. Some (Int z))
 
+-- an arc from a cell, or from the cell before a `!` with the value behind it
+abbrev pub arc_from : List ℕ → Option (List ℕ × List ℕ) → Option Feed
+arc_from word None = number_in word >>= λ n. Some (Arc (record { 0 = n }))
+arc_from word (Some parts) = number_in parts.0 >>= λ n. value_in parts.1 >>= λ v. Some (Loaded (record { 0 = n }) v)
+
+unfoldable pub arc_in : List ℕ → Option Feed
+arc_in word = arc_from word (cut_at 33 word)
+
 unfoldable pub feed_in : List ℕ → Option Feed
 feed_in [] = None
-feed_in (b ∷ word) = cond (b == 64) (number_in word >>= λ n. Some (Arc (record { 0 = n }))) (cond (b == 61) (value_in word >>= λ v. Some (Constant v)) None)
+feed_in (b ∷ word) = cond (b == 64) (arc_in word) (cond (b == 61) (value_in word >>= λ v. Some (Constant v)) None)
 
 unfoldable pub dest_in : List ℕ → Option Dest
 dest_in word = do
@@ -261,26 +271,27 @@ nothing_after x [] = Some (x, [])
 nothing_after x (word ∷ rest) = None
 
 -- how many cells the first line says that there are
-unfoldable pub count_in : List (List ℕ) → Option (ℕ × List (List ℕ))
-count_in words = do
-  version ← after_word (codes "dataflow") words
-  number ← after_word (codes "1") version
+unfoldable pub count_in : Version → List (List ℕ) → Option (ℕ × List (List ℕ))
+count_in version words = do
+  name ← after_word (codes "dataflow") words
+  number ← after_word (version_word version) name
   count ← number_at number
   _ ← passed (nat_le count.0 65536) count.0
   nothing_after count.0 count.1
 
 -- ---- the front of a text
 
-unfoldable pub count_line : List ℕ → Option (ℕ × List ℕ)
-count_line text = do
+unfoldable pub count_line : Version → List ℕ → Option (ℕ × List ℕ)
+count_line version text = do
   line ← cut_at 10 text
-  count ← count_in (words_of line.0)
+  count ← count_in version (words_of line.0)
   Some (count.0, line.1)
 
-unfoldable pub cell_line_in : ℕ → List ℕ → Option (Cell × List ℕ)
-cell_line_in number text = do
+unfoldable pub cell_line_in : Version → ℕ → List ℕ → Option (Cell × List ℕ)
+cell_line_in version number text = do
   line ← cut_at 10 text
   cell ← cell_in number (words_of line.0)
+  _ ← passed (has_cell version cell.0) number
   Some (cell.0, line.1)
 
 unfoldable pub end_line : List ℕ → Option (List ℕ)

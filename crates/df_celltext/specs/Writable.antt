@@ -5,12 +5,15 @@ use Rattle.df_values.specs.Values.{IsOrdinary, IsValue}
 use Rattle.df_cells.specs.declared.cells.Cell.{Cell}
 use Rattle.df_cells.specs.declared.cells.Dest.{Dest}
 use Rattle.df_cells.specs.declared.cells.Feed.{Feed}
-use Rattle.df_cells.specs.declared.cells.Feed.TheVariants.{Arc, Constant}
+use Rattle.df_cells.specs.declared.cells.Feed.TheVariants.{Arc, Constant, Loaded}
 use Rattle.df_cells.specs.declared.kinds.Kind.{Kind}
 use Rattle.df_cells.specs.declared.kinds.Kind.TheVariants as kind
 use Rattle.df_cells.specs.declared.kinds.Run.{Run}
 use Rattle.df_cells.specs.Cells.{AreCells}
-use Rattle.df_celltext.specs.CellText.{cell_text}
+use Rattle.df_celltext.specs.declared.version.Version.{Version}
+use Rattle.df_celltext.specs.declared.version.Version.TheVariants.{Two}
+use Rattle.df_celltext.specs.Versions.{has_cell}
+use Rattle.df_celltext.specs.CellText.{version_text}
 
 -- ---- names
 
@@ -49,6 +52,7 @@ IsWritableKind _ = Unit {0}
 abbrev pub IsWritableFeed : Feed → Type 0
 IsWritableFeed (Arc u) = IsCount u.0
 IsWritableFeed (Constant v) = IsValue v
+IsWritableFeed (Loaded u v) = IsCount u.0 × IsValue v
 
 abbrev pub IsWritableDest : Dest → Type 0
 IsWritableDest d = IsCount d.cell.0 × (d.port.0 ≤ 255)
@@ -63,10 +67,16 @@ pub record IsWritableCell (cell : Cell) : Type 0 where
   pub ports : All IsWritableFeed cell.ports
   pub dests : All IsWritableDest cell.dests
 
-pub record IsWritable (cells : List Cell) : Type 0 where
+-- all of it can be written in the version
+pub record IsWritableIn (version : Version) (cells : List Cell) : Type 0 where
   pub shaped : AreCells cells
   pub each : All IsWritableCell cells
+  pub has : All (λ cell. IsTrue (has_cell version cell)) cells
+
+-- the text is that of the list in the version
+abbrev pub IsTextIn : Version → List ℕ → List Cell → Type 0
+IsTextIn version text cells = IsWritableIn version cells × (text ≡ version_text version cells)
 
 -- the text is that of the list
 abbrev pub IsTextOf : List ℕ → List Cell → Type 0
-IsTextOf text cells = IsWritable cells × (text ≡ cell_text cells)
+IsTextOf text cells = IsTextIn Two text cells

@@ -4,6 +4,7 @@ ghost use Rattle.df_celltext.specs.Reading.{Gives, Passes, number_at, integer_at
 
 use crate::kinds::plain_kind;
 use crate::spellings;
+use crate::version::Version;
 use crate::words::{LineAnswer, Words, is};
 use df_cells::cells::Cell;
 use df_cells::kinds::{Kind, Runs};
@@ -16,11 +17,11 @@ use std::alloc::Global;
 impl<'a> Words<'a> {
     /// How many cells there are, by the words of the first line.
     #[tactic(auto, unfolding(crate::specs::Reading::count_in))]
-    pub fn count(&mut self) -> Result<u32, LineAnswer>
-        ensures { Gives result self.new (count_in self.old) }
+    pub fn count(&mut self, version: Version) -> Result<u32, LineAnswer>
+        ensures { Gives result self.new (count_in version self.old) }
     {
         self.expect("dataflow")?;
-        self.expect("1")?;
+        self.expect(version.word())?;
         let count = self.number()?;
         if count > 65536 {
             return Err(LineAnswer::Wrong);

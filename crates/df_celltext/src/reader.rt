@@ -5,9 +5,11 @@ ghost use Rattle.df_cells.specs.declared.cells.Cell.{Cell};
 ghost use Rattle.df_celltext.specs.declared.reader.CellTextAnswer.TheVariants as cell_text_answer;
 ghost use Rattle.df_celltext.specs.Cuts.{cut_at};
 ghost use Rattle.df_celltext.specs.Reading.{Gives, Passes, count_line, cell_line_in, end_line};
-ghost use Rattle.df_celltext.specs.Writable.{IsTextOf};
+ghost use Rattle.df_celltext.specs.declared.version.Version.TheVariants as version;
+ghost use Rattle.df_celltext.specs.Writable.{IsTextIn, IsTextOf};
 ghost use Rattle.df_celltext.specs.WrongLines.{answer_at, ShowsWrong};
 
+use crate::version::Version;
 use crate::words::{LineAnswer, Words, cut, is};
 use df_cells::cells::{Cell, Cells};
 use df_values::memory::Memory;
@@ -75,24 +77,29 @@ impl<'a> Lines<'a> {
 
     // Takes the first line, and gives the number of cells.
     #[tactic(auto, unfolding(crate::specs::Reading::count_line))]
-    fn count(&mut self) -> Result<u32, LineAnswer>
-        ensures { Gives result self.new (count_line self.old) }
+    fn count(&mut self, version: Version) -> Result<u32, LineAnswer>
+        ensures { Gives result self.new (count_line version self.old) }
     {
         let Some(line) = self.next() else {
             return Err(LineAnswer::Wrong);
         };
-        Words::new(line).count()
+        Words::new(line).count(version)
     }
 
     // Takes the line of the cell of this number.
     #[tactic(auto, unfolding(crate::specs::Reading::cell_line_in))]
-    fn cell(&mut self, alloc: Global, number: u32) -> Result<Cell, LineAnswer>
-        ensures { Gives result self.new (cell_line_in number self.old) }
+    fn cell(&mut self, alloc: Global, version: Version, number: u32) -> Result<Cell, LineAnswer>
+        ensures { Gives result self.new (cell_line_in version number self.old) }
     {
         let Some(line) = self.next() else {
             return Err(LineAnswer::Wrong);
         };
-        Words::new(line).cell(alloc, number)
+        let cell = Words::new(line).cell(alloc, number)?;
+        if version.has_cell(&cell) {
+            Ok(cell)
+        } else {
+            Err(LineAnswer::Wrong)
+        }
     }
 
     // Takes the last line.
@@ -120,18 +127,37 @@ impl<'a> Lines<'a> {
 /// `end` nothing may stand.
 pub fn read_cells(alloc: Global, text: &[u8]) -> Result<Cells, CellTextAnswer>
     ensures found { IfOk result (λ cells. IsTextOf text.now cells) }
-    ensures wrong { IfErr result (λ answer. ShowsWrong text.now answer) }
+    ensures wrong { IfErr result (λ answer. ShowsWrong version.Two text.now answer) }
     ensures only { (cells : List Cell) → IsTextOf text.now cells
         → MatchResult result (λ found. found ≡ cells) (λ answer. answer ≡ cell_text_answer.Memory) }
 {
+    read_version(alloc, Version::Two, text)
+}
+
+/// The same for a text of version 1, in which numbers are from -2147483648 to 2147483647 and no port is loaded.
+pub fn read_cells_1(alloc: Global, text: &[u8]) -> Result<Cells, CellTextAnswer>
+    ensures found { IfOk result (λ cells. IsTextIn version.One text.now cells) }
+    ensures wrong { IfErr result (λ answer. ShowsWrong version.One text.now answer) }
+    ensures only { (cells : List Cell) → IsTextIn version.One text.now cells
+        → MatchResult result (λ found. found ≡ cells) (λ answer. answer ≡ cell_text_answer.Memory) }
+{
+    read_version(alloc, Version::One, text)
+}
+
+fn read_version(alloc: Global, version: Version, text: &[u8]) -> Result<Cells, CellTextAnswer>
+    ensures found { IfOk result (λ cells. IsTextIn version text.now cells) }
+    ensures wrong { IfErr result (λ answer. ShowsWrong version text.now answer) }
+    ensures only { (cells : List Cell) → IsTextIn version text.now cells
+        → MatchResult result (λ found. found ≡ cells) (λ answer. answer ≡ cell_text_answer.Memory) }
+{
     let mut lines = Lines { rest: text };
-    let count = match lines.count() {
+    let count = match lines.count(version) {
         Ok(count) => count,
         Err(answer) => return Err(answer_at(answer, 1)),
     };
     let mut cells = Cells::new(alloc);
     for number in 0..count {
-        let cell = match lines.cell(alloc, number) {
+        let cell = match lines.cell(alloc, version, number) {
             Ok(cell) => cell,
             Err(answer) => return Err(answer_at(answer, number + 2)),
         };

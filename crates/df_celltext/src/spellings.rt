@@ -2,7 +2,7 @@
 ghost use Rattle.std.specs.Prelude.{◌≡◌, MatchOption, IfSome, IfNone, IfOk, OnErr, Some, None};
 ghost use Rattle.std.specs.List.{list_all};
 ghost use Rattle.df_celltext.specs.Writable.{is_name, is_name_byte};
-ghost use Rattle.df_celltext.specs.Reading.{number_in, integer_in, named_in, value_words, value_in, feed_in, dest_in, run_in, basic_words};
+ghost use Rattle.df_celltext.specs.Reading.{number_in, integer_in, named_in, value_words, value_in, arc_in, feed_in, dest_in, run_in, basic_words};
 
 use crate::words::{cut, is};
 use df_cells::cells::{CellId, Dest, Feed, Port};
@@ -83,15 +83,30 @@ pub fn feed(word: &[u8]) -> Option<Feed>
     ensures { result ≡ feed_in word.now }
 {
     match word {
-        [b'@', cell @ ..] => match number(cell) {
-            Some(cell) => Some(Feed::Arc(CellId(cell))),
-            None => None,
-        },
+        [b'@', arc @ ..] => arc_of_word(arc),
         [b'=', constant @ ..] => match value(constant) {
             Some(value) => Some(Feed::Constant(value)),
             None => None,
         },
         _ => None,
+    }
+}
+
+// An arc, behind its `@`: the cell that it comes from, and behind a `!` the value that is loaded.
+#[tactic(auto, unfolding(crate::specs::Reading::arc_in))]
+fn arc_of_word(word: &[u8]) -> Option<Feed>
+    ensures { result ≡ arc_in word.now }
+{
+    match cut(word, b'!') {
+        Some((cell, loaded)) => {
+            let cell = number(cell)?;
+            let loaded = value(loaded)?;
+            Some(Feed::Loaded(CellId(cell), loaded))
+        }
+        None => match number(word) {
+            Some(cell) => Some(Feed::Arc(CellId(cell))),
+            None => None,
+        },
     }
 }
 

@@ -42,6 +42,12 @@ fn push_feed(text: &mut Bytes, feed: &Feed) -> Result<(), Memory>
             text.push_text(" =")?;
             text.push_value(*value)
         }
+        Feed::Loaded(cell, value) => {
+            text.push_text(" @")?;
+            text.push_number(u64::from(cell.0))?;
+            text.push_text("!")?;
+            text.push_value(*value)
+        }
     }
 }
 
@@ -135,12 +141,12 @@ fn push_cell(text: &mut Bytes, number: u32, cell: &Cell) -> Result<(), Memory>
     text.push_text("\n")
 }
 
-/// The text of a list of cells. The only error is want of memory.
+/// The text of a list of cells, of version 2. The only error is want of memory.
 pub fn write_cells(alloc: Global, cells: &Cells) -> Result<Bytes, Memory>
     ensures { IfOk result (λ text. text ≡ cell_text cells.now) }
 {
     let mut text = Bytes::new(alloc);
-    text.push_text("dataflow 1 ")?;
+    text.push_text("dataflow 2 ")?;
     text.push_number(u64::from(cells.len()))?;
     text.push_text("\n")?;
     for number in 0..cells.len() {

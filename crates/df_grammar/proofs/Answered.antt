@@ -13,11 +13,11 @@ use Rattle.df_syntax.specs.Refusals as at
 use Rattle.df_syntax.specs.Refusals.{FirstWrong, TooDeepAt, IsSource, IsWrongAt, IsTooDeepAt, Answer, IsAnswer, source_of, wrong_at, unsupported_at, too_deep_at}
 use Rattle.df_syntax.proofs.Refused.{one_answer}
 use Rattle.df_syntax.proofs.SourceReading as source
-use Rattle.df_grammar.specs.declared.error.ParseError.{ParseError}
-use Rattle.df_grammar.specs.declared.error.ParseError.TheVariants as e
+use Rattle.df_cursor.specs.declared.error.ParseError.{ParseError}
+use Rattle.df_cursor.specs.declared.error.ParseError.TheVariants as e
 use Rattle.df_grammar.specs.declared.parser.ParseAnswer.{ParseAnswer}
 use Rattle.df_grammar.specs.declared.parser.ParseAnswer.TheVariants as a
-use Rattle.df_grammar.specs.Reads.{fault}
+use Rattle.df_cursor.specs.Reads.{fault}
 use Rattle.df_grammar.specs.Answers.{IsAnswered, IsThis, of_kind, refusal}
 
 -- the first wrong token

@@ -24,7 +24,8 @@ use Rattle.df_syntax.specs.Lines as l
 use Rattle.df_syntax.specs.Lines.{start, expr}
 use Rattle.df_syntax.specs.Reading.{reads, deeper}
 use Rattle.df_grammar.specs.Parts as p
-use Rattle.df_grammar.proofs.Firsts.{first_factor_link, first_term_link, first_inversion_link, first_conjunction_link, first_constant, first_range, first_function}
+use Rattle.df_cursor.proofs.Firsts.{first_factor_link, first_term_link}
+use Rattle.df_grammar.proofs.Firsts.{first_inversion_link, first_conjunction_link, first_constant, first_range, first_function}
 use Rattle.df_grammar.proofs.Levels.{level_factor, level_term, level_inversion, level_conjunction, level_definition_1, level_arm_1, level_assign_2, level_bound_2, level_sort_2, level_group_2, level_function_1}
 
 solid_expr : empty expr ≡ false

@@ -6,7 +6,7 @@ use Rattle.df_syntax.specs.Refusals.{openers, closers}
 use Rattle.df_syntax.specs.Grammar as g
 use Rattle.df_syntax.specs.Lines as l
 use Rattle.df_syntax.specs.Reading.{reads}
-use Rattle.df_grammar.specs.Reads.{plain}
+use Rattle.df_cursor.specs.Reads.{plain}
 
 pub plain_basic_type : (depth level : ℕ) (ts : List Token) → reads depth level g.basic_type ts ≡ plain g.basic_type ts
 unfolding plain read g.basic_type

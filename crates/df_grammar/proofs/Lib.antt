@@ -1,8 +1,7 @@
 pub mod Answered
 pub mod Chains
+pub mod Deeper
 pub mod Firsts
 pub mod Groups
-pub mod Hands
 pub mod Levels
-pub mod Opening
-pub mod Starts
+pub mod Steps

@@ -7,8 +7,8 @@ use Rattle.df_syntax.specs.declared.token.TokenKind.TheVariants as kind
 use Rattle.df_syntax.specs.declared.program.Program.{Program}
 use Rattle.df_syntax.specs.TokenList.{TokenList}
 use Rattle.df_syntax.specs.Refusals.{IsSource, IsWrongAt, IsUnsupportedAt, IsTooDeepAt, Answer, source_of, wrong_at, unsupported_at, too_deep_at}
-use Rattle.df_grammar.specs.declared.error.ParseError.{ParseError}
-use Rattle.df_grammar.specs.declared.error.ParseError.TheVariants as e
+use Rattle.df_cursor.specs.declared.error.ParseError.{ParseError}
+use Rattle.df_cursor.specs.declared.error.ParseError.TheVariants as e
 use Rattle.df_grammar.specs.declared.parser.ParseAnswer.{ParseAnswer}
 use Rattle.df_grammar.specs.declared.parser.ParseAnswer.TheVariants as a
 

@@ -5,9 +5,9 @@ use denote.Ref.{MutBor}
 use Rattle.df_syntax.specs.declared.tree.Expr.{Expr}
 use Rattle.df_syntax.specs.Lines.{expr}
 use Rattle.df_syntax.specs.Reading.{reads}
-use Rattle.df_grammar.specs.declared.cursor.Cursor.{Cursor}
-use Rattle.df_grammar.specs.declared.error.ParseError.{ParseError}
-use Rattle.df_grammar.specs.Reads.{Reads}
+use Rattle.df_cursor.specs.declared.cursor.Cursor.{Cursor}
+use Rattle.df_cursor.specs.declared.error.ParseError.{ParseError}
+use Rattle.df_cursor.specs.Reads.{Reads}
 
 -- it reads an expression in which fewer than `depth` brackets may be open
 pub record Nests (depth : ℕ) (pre : Global → MutBor Cursor → ℕ → Type 0)

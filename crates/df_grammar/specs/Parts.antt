@@ -11,8 +11,7 @@ use Rattle.df_syntax.specs.declared.tree.Assign.{Assign}
 use Rattle.df_syntax.specs.declared.tree.Parameter.{Parameter}
 use Rattle.df_syntax.specs.Grammar as g
 use Rattle.df_syntax.specs.Grammar.{Line, symbol, word, behind}
-use Rattle.df_syntax.specs.TokenClasses.{word_code}
-use Rattle.std.specs.Prelude.{ℕ, List, [], ◌∷◌}
+use Rattle.std.specs.Prelude.{List}
 
 -- "," expr
 unfoldable pub next_expr : Line Expr
@@ -41,7 +40,3 @@ next_group = behind (symbol s.Semicolon) g.group
 -- "," type
 unfoldable pub next_type : Line Sort
 next_type = behind (symbol s.Comma) g.sort
-
--- the first tokens of `let`, `if`, `forall` and `for`
-unfoldable pub blocks : List ℕ
-blocks = word_code r.Let ∷ word_code r.If ∷ word_code r.ForAll ∷ word_code r.For ∷ []

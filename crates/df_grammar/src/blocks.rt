@@ -5,11 +5,11 @@ ghost use Rattle.df_syntax.specs.Lines as read;
 ghost use Rattle.df_syntax.specs.Reading.{reads};
 ghost use Rattle.df_grammar.specs.Nests.{Nests};
 ghost use Rattle.df_grammar.specs.Parts as part;
-ghost use Rattle.df_grammar.specs.Reads.{Reads};
+ghost use Rattle.df_cursor.specs.Reads.{Reads};
 
-use crate::cursor::Cursor;
 use crate::descent::{Descent, node};
-use crate::error::ParseError;
+use df_cursor::cursor::Cursor;
+use df_cursor::error::ParseError;
 use df_syntax::symbol::Symbol;
 use df_syntax::tree::{Arm, Assign, Definition, Expr, Named, Node, Sort};
 use df_syntax::word::Reserved;
@@ -38,9 +38,23 @@ fn for_all(index: Named, low: Expr, high: Expr, op: Option<Op>, elem: Expr) -> N
     }
 }
 
+impl<F> Descent<F> {
+    /// A type.
+    #[tactic(auto, using(df_cursor::proofs::Firsts::first_basic_type, crate::proofs::Levels::plain_basic_type), unfolding(df_syntax::specs::Grammar::sort, df_forms::specs::Reading::read, df_cursor::specs::Reads::opened))]
+    pub fn sort(&self, tokens: &mut Cursor<'_>, level: usize) -> Result<Sort, ParseError>
+        ensures { Reads (reads self.now.depth level line.sort tokens.old.rest.now) tokens.old.rest.now result tokens.new.rest.now }
+    {
+        if tokens.begins_basic() {
+            Ok(Sort::Basic(self.basic_type(tokens)?))
+        } else {
+            tokens.take_word(Reserved::Array)?;
+            Ok(Sort::Array(self.of_basic(tokens, level)?))
+        }
+    }
+}
+
 impl<F: Fn(Global, &mut Cursor<'_>, usize) -> Result<Expr, ParseError>> Descent<F> {
     /// An expression behind a comma.
-    #[tactic(auto, unfolding(crate::specs::Parts::next_expr, df_forms::specs::Reading::read, crate::specs::Reads::opened))]
     pub fn next_expr(&self, tokens: &mut Cursor<'_>) -> Result<Expr, ParseError>
         requires nests { Nests self.now.depth (F.pre self.now.expr) (F.post self.now.expr) }
         requires inside { 0 < self.now.depth }
@@ -51,7 +65,7 @@ impl<F: Fn(Global, &mut Cursor<'_>, usize) -> Result<Expr, ParseError>> Descent<
     }
 
     /// One expression or more.
-    #[tactic(auto, unfolding(df_syntax::specs::Grammar::exprs, df_forms::specs::Reading::read, crate::specs::Reads::opened))]
+    #[tactic(auto, unfolding(df_syntax::specs::Grammar::exprs, df_forms::specs::Reading::read, df_cursor::specs::Reads::opened))]
     pub fn exprs(&self, tokens: &mut Cursor<'_>) -> Result<Items<Expr>, ParseError>
         requires nests { Nests self.now.depth (F.pre self.now.expr) (F.post self.now.expr) }
         requires inside { 0 < self.now.depth }
@@ -67,7 +81,7 @@ impl<F: Fn(Global, &mut Cursor<'_>, usize) -> Result<Expr, ParseError>> Descent<
     }
 
     /// None or more expressions.
-    #[tactic(auto, using(crate::proofs::Starts::first_exprs), unfolding(df_syntax::specs::Grammar::arguments, df_forms::specs::Reading::read, crate::specs::Reads::opened))]
+    #[tactic(auto, using(crate::proofs::Firsts::first_exprs), unfolding(df_syntax::specs::Grammar::arguments, df_forms::specs::Reading::read, df_cursor::specs::Reads::opened))]
     pub fn arguments(&self, tokens: &mut Cursor<'_>) -> Result<Items<Expr>, ParseError>
         requires nests { Nests self.now.depth (F.pre self.now.expr) (F.post self.now.expr) }
         requires inside { 0 < self.now.depth }
@@ -80,21 +94,7 @@ impl<F: Fn(Global, &mut Cursor<'_>, usize) -> Result<Expr, ParseError>> Descent<
         }
     }
 
-    /// A type.
-    #[tactic(auto, using(crate::proofs::Firsts::first_basic_type, crate::proofs::Levels::plain_basic_type), unfolding(df_syntax::specs::Grammar::sort, df_forms::specs::Reading::read, crate::specs::Reads::opened))]
-    pub fn sort(&self, tokens: &mut Cursor<'_>, level: usize) -> Result<Sort, ParseError>
-        ensures { Reads (reads self.now.depth level line.sort tokens.old.rest.now) tokens.old.rest.now result tokens.new.rest.now }
-    {
-        if tokens.begins_basic() {
-            Ok(Sort::Basic(self.basic_type(tokens)?))
-        } else {
-            tokens.take_word(Reserved::Array)?;
-            Ok(Sort::Array(self.of_basic(tokens, level)?))
-        }
-    }
-
     /// The definition of a name.
-    #[tactic(auto, using(crate::proofs::Levels::level_bound_1, crate::proofs::Levels::level_sort_1), unfolding(df_syntax::specs::Grammar::definition, df_forms::specs::Reading::read, crate::specs::Reads::opened))]
     pub fn definition(&self, tokens: &mut Cursor<'_>) -> Result<Definition, ParseError>
         requires nests { Nests self.now.depth (F.pre self.now.expr) (F.post self.now.expr) }
         requires inside { 0 < self.now.depth }
@@ -109,7 +109,6 @@ impl<F: Fn(Global, &mut Cursor<'_>, usize) -> Result<Expr, ParseError>> Descent<
     }
 
     /// A definition behind a semicolon.
-    #[tactic(auto, unfolding(crate::specs::Parts::next_definition, df_forms::specs::Reading::read, crate::specs::Reads::opened))]
     pub fn next_definition(&self, tokens: &mut Cursor<'_>) -> Result<Definition, ParseError>
         requires nests { Nests self.now.depth (F.pre self.now.expr) (F.post self.now.expr) }
         requires inside { 0 < self.now.depth }
@@ -120,7 +119,7 @@ impl<F: Fn(Global, &mut Cursor<'_>, usize) -> Result<Expr, ParseError>> Descent<
     }
 
     /// One definition or more.
-    #[tactic(auto, using(crate::proofs::Levels::level_definition_1), unfolding(df_syntax::specs::Grammar::definitions, df_forms::specs::Reading::read, crate::specs::Reads::opened))]
+    #[tactic(auto, using(crate::proofs::Levels::level_definition_1), unfolding(df_syntax::specs::Grammar::definitions, df_forms::specs::Reading::read, df_cursor::specs::Reads::opened))]
     pub fn definitions(&self, tokens: &mut Cursor<'_>) -> Result<Items<Definition>, ParseError>
         requires nests { Nests self.now.depth (F.pre self.now.expr) (F.post self.now.expr) }
         requires inside { 0 < self.now.depth }
@@ -136,12 +135,11 @@ impl<F: Fn(Global, &mut Cursor<'_>, usize) -> Result<Expr, ParseError>> Descent<
     }
 
     /// Definitions and the values that they are for.
-    #[tactic(auto, using(crate::proofs::Levels::level_definitions_1, crate::proofs::Levels::level_exprs_1), unfolding(df_syntax::specs::Grammar::block, df_forms::specs::Reading::read, crate::specs::Reads::opened))]
     pub fn block(&self, tokens: &mut Cursor<'_>) -> Result<Expr, ParseError>
         requires { Nests self.now.depth (F.pre self.now.expr) (F.post self.now.expr) }
         ensures { Reads (reads self.now.depth 0 line.block tokens.old.rest.now) tokens.old.rest.now result tokens.new.rest.now }
     {
-        let token = self.open_word(tokens, Reserved::Let, 0)?;
+        let token = tokens.open_word(Reserved::Let, 0, self.depth)?;
         let definitions = self.definitions(tokens)?;
         tokens.take_word(Reserved::In)?;
         let values = self.exprs(tokens)?;
@@ -157,7 +155,6 @@ impl<F: Fn(Global, &mut Cursor<'_>, usize) -> Result<Expr, ParseError>> Descent<
     }
 
     /// What is tested, and the value where it holds.
-    #[tactic(auto, unfolding(df_syntax::specs::Grammar::arm, df_forms::specs::Reading::read, crate::specs::Reads::opened))]
     pub fn arm(&self, tokens: &mut Cursor<'_>) -> Result<Arm, ParseError>
         requires nests { Nests self.now.depth (F.pre self.now.expr) (F.post self.now.expr) }
         requires inside { 0 < self.now.depth }
@@ -170,7 +167,6 @@ impl<F: Fn(Global, &mut Cursor<'_>, usize) -> Result<Expr, ParseError>> Descent<
     }
 
     /// An arm behind `elseif`, which opens no bracket.
-    #[tactic(auto, unfolding(crate::specs::Parts::next_arm, df_forms::specs::Reading::read, crate::specs::Reads::opened))]
     pub fn next_arm(&self, tokens: &mut Cursor<'_>) -> Result<Arm, ParseError>
         requires nests { Nests self.now.depth (F.pre self.now.expr) (F.post self.now.expr) }
         requires inside { 0 < self.now.depth }
@@ -181,7 +177,7 @@ impl<F: Fn(Global, &mut Cursor<'_>, usize) -> Result<Expr, ParseError>> Descent<
     }
 
     /// One arm or more.
-    #[tactic(auto, using(crate::proofs::Levels::level_arm_1), unfolding(df_syntax::specs::Grammar::arms, df_forms::specs::Reading::read, crate::specs::Reads::opened))]
+    #[tactic(auto, using(crate::proofs::Levels::level_arm_1), unfolding(df_syntax::specs::Grammar::arms, df_forms::specs::Reading::read, df_cursor::specs::Reads::opened))]
     pub fn arms(&self, tokens: &mut Cursor<'_>) -> Result<Items<Arm>, ParseError>
         requires nests { Nests self.now.depth (F.pre self.now.expr) (F.post self.now.expr) }
         requires inside { 0 < self.now.depth }
@@ -197,12 +193,11 @@ impl<F: Fn(Global, &mut Cursor<'_>, usize) -> Result<Expr, ParseError>> Descent<
     }
 
     /// An `if`.
-    #[tactic(auto, using(crate::proofs::Levels::level_arms_1), unfolding(df_syntax::specs::Grammar::choice, df_forms::specs::Reading::read, crate::specs::Reads::opened))]
     pub fn choice(&self, tokens: &mut Cursor<'_>) -> Result<Expr, ParseError>
         requires { Nests self.now.depth (F.pre self.now.expr) (F.post self.now.expr) }
         ensures { Reads (reads self.now.depth 0 line.choice tokens.old.rest.now) tokens.old.rest.now result tokens.new.rest.now }
     {
-        let token = self.open_word(tokens, Reserved::If, 0)?;
+        let token = tokens.open_word(Reserved::If, 0, self.depth)?;
         let arms = self.arms(tokens)?;
         tokens.take_word(Reserved::Else)?;
         let last = self.again(tokens, 1)?;
@@ -211,7 +206,6 @@ impl<F: Fn(Global, &mut Cursor<'_>, usize) -> Result<Expr, ParseError>> Descent<
     }
 
     /// The element for each index, and the operator that folds them.
-    #[tactic(auto, using(crate::proofs::Levels::level_fold_op_1), unfolding(df_syntax::specs::Grammar::element, df_forms::specs::Reading::read, crate::specs::Reads::opened))]
     pub fn element(&self, tokens: &mut Cursor<'_>) -> Result<(Option<Op>, Expr), ParseError>
         requires nests { Nests self.now.depth (F.pre self.now.expr) (F.post self.now.expr) }
         requires inside { 0 < self.now.depth }
@@ -228,12 +222,11 @@ impl<F: Fn(Global, &mut Cursor<'_>, usize) -> Result<Expr, ParseError>> Descent<
     }
 
     /// The indices of a `forall`.
-    #[tactic(auto, unfolding(df_syntax::specs::Grammar::bounds, df_forms::specs::Reading::read, crate::specs::Reads::opened))]
     pub fn bounds(&self, tokens: &mut Cursor<'_>) -> Result<(Expr, Expr), ParseError>
         requires { Nests self.now.depth (F.pre self.now.expr) (F.post self.now.expr) }
         ensures { Reads (reads self.now.depth 1 line.bounds tokens.old.rest.now) tokens.old.rest.now result tokens.new.rest.now }
     {
-        self.open_symbol(tokens, Symbol::LeftBracket, 1)?;
+        tokens.open_symbol(Symbol::LeftBracket, 1, self.depth)?;
         let low = self.again(tokens, 2)?;
         tokens.take_symbol(Symbol::Comma)?;
         let high = self.again(tokens, 2)?;
@@ -242,12 +235,11 @@ impl<F: Fn(Global, &mut Cursor<'_>, usize) -> Result<Expr, ParseError>> Descent<
     }
 
     /// A `forall`.
-    #[tactic(auto, using(crate::proofs::Levels::level_bound_1, crate::proofs::Levels::level_bounds_1, crate::proofs::Levels::level_element_1), unfolding(df_syntax::specs::Grammar::all_indices, df_forms::specs::Reading::read, crate::specs::Reads::opened))]
     pub fn all_indices(&self, tokens: &mut Cursor<'_>) -> Result<Expr, ParseError>
         requires { Nests self.now.depth (F.pre self.now.expr) (F.post self.now.expr) }
         ensures { Reads (reads self.now.depth 0 line.all_indices tokens.old.rest.now) tokens.old.rest.now result tokens.new.rest.now }
     {
-        let token = self.open_word(tokens, Reserved::ForAll, 0)?;
+        let token = tokens.open_word(Reserved::ForAll, 0, self.depth)?;
         let index = self.bound(tokens)?;
         tokens.take_word(Reserved::In)?;
         let (low, high) = self.bounds(tokens)?;
@@ -257,7 +249,6 @@ impl<F: Fn(Global, &mut Cursor<'_>, usize) -> Result<Expr, ParseError>> Descent<
     }
 
     /// The next value of a name of a loop.
-    #[tactic(auto, using(crate::proofs::Levels::level_bound_2), unfolding(df_syntax::specs::Grammar::assign, df_forms::specs::Reading::read, crate::specs::Reads::opened))]
     pub fn assign(&self, tokens: &mut Cursor<'_>) -> Result<Assign, ParseError>
         requires nests { Nests self.now.depth (F.pre self.now.expr) (F.post self.now.expr) }
         requires inside { 1 < self.now.depth }
@@ -270,7 +261,6 @@ impl<F: Fn(Global, &mut Cursor<'_>, usize) -> Result<Expr, ParseError>> Descent<
     }
 
     /// An assignment behind a semicolon.
-    #[tactic(auto, unfolding(crate::specs::Parts::next_assign, df_forms::specs::Reading::read, crate::specs::Reads::opened))]
     pub fn next_assign(&self, tokens: &mut Cursor<'_>) -> Result<Assign, ParseError>
         requires nests { Nests self.now.depth (F.pre self.now.expr) (F.post self.now.expr) }
         requires inside { 1 < self.now.depth }
@@ -281,7 +271,7 @@ impl<F: Fn(Global, &mut Cursor<'_>, usize) -> Result<Expr, ParseError>> Descent<
     }
 
     /// One assignment or more.
-    #[tactic(auto, using(crate::proofs::Levels::level_assign_2), unfolding(df_syntax::specs::Grammar::assigns, df_forms::specs::Reading::read, crate::specs::Reads::opened))]
+    #[tactic(auto, using(crate::proofs::Levels::level_assign_2), unfolding(df_syntax::specs::Grammar::assigns, df_forms::specs::Reading::read, df_cursor::specs::Reads::opened))]
     pub fn assigns(&self, tokens: &mut Cursor<'_>) -> Result<Items<Assign>, ParseError>
         requires nests { Nests self.now.depth (F.pre self.now.expr) (F.post self.now.expr) }
         requires inside { 1 < self.now.depth }
@@ -297,15 +287,14 @@ impl<F: Fn(Global, &mut Cursor<'_>, usize) -> Result<Expr, ParseError>> Descent<
     }
 
     /// A `for`.
-    #[tactic(auto, using(crate::proofs::Levels::level_definitions_1, crate::proofs::Levels::level_assigns_2), unfolding(df_syntax::specs::Grammar::for_loop, df_forms::specs::Reading::read, crate::specs::Reads::opened))]
     pub fn for_loop(&self, tokens: &mut Cursor<'_>) -> Result<Expr, ParseError>
         requires { Nests self.now.depth (F.pre self.now.expr) (F.post self.now.expr) }
         ensures { Reads (reads self.now.depth 0 line.for_loop tokens.old.rest.now) tokens.old.rest.now result tokens.new.rest.now }
     {
-        let token = self.open_word(tokens, Reserved::For, 0)?;
+        let token = tokens.open_word(Reserved::For, 0, self.depth)?;
         let definitions = self.definitions(tokens)?;
         tokens.take_word(Reserved::Do)?;
-        self.open_word(tokens, Reserved::If, 1)?;
+        tokens.open_word(Reserved::If, 1, self.depth)?;
         let test = self.again(tokens, 2)?;
         tokens.take_word(Reserved::Then)?;
         tokens.take_word(Reserved::Iter)?;

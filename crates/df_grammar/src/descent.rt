@@ -1,19 +1,14 @@
 //! What all lines share: brackets, and the expressions inside them.
-ghost use Rattle.std.specs.Prelude.{◌≡◌, ◌<◌, ◌≤◌, OnOk, IfOk};
+ghost use Rattle.std.specs.Prelude.{◌≡◌, ◌<◌, ◌≤◌, IfOk};
 ghost use Rattle.df_syntax.specs.Grammar as line;
-ghost use Rattle.df_syntax.specs.TokenClasses as class;
-ghost use Rattle.df_syntax.specs.TokenClasses.{code};
 ghost use Rattle.df_syntax.specs.Reading.{deeper};
 ghost use Rattle.df_grammar.specs.Nests.{Nests};
-ghost use Rattle.df_grammar.specs.Reads.{Reads, opened};
+ghost use Rattle.df_cursor.specs.Reads.{Reads};
 
-use crate::cursor::Cursor;
-use crate::error::ParseError;
+use df_cursor::cursor::Cursor;
+use df_cursor::error::ParseError;
 use df_io::Place;
-use df_syntax::symbol::Symbol;
-use df_syntax::token::Token;
 use df_syntax::tree::{Expr, Link, Node};
-use df_syntax::word::Reserved;
 use sqlite_items::{Boxed, Items};
 use std::alloc::{AllocError, Global};
 
@@ -52,48 +47,6 @@ pub fn chain(alloc: Global, first: Expr, rest: Items<Link>) -> Result<Expr, Allo
 }
 
 impl<F: Fn(Global, &mut Cursor<'_>, usize) -> Result<Expr, ParseError>> Descent<F> {
-    /// Takes a word that opens a bracket.
-    #[tactic(auto, using(crate::proofs::Opening::opened_room, crate::proofs::Opening::opened_deep, crate::proofs::Opening::opened_wrong))]
-    pub fn open_word(
-        &self,
-        tokens: &mut Cursor<'_>,
-        wanted: Reserved,
-        level: usize,
-    ) -> Result<Token, ParseError>
-        ensures takes { Reads (opened self.now.depth level (code (class.word wanted)) tokens.old.rest.now) tokens.old.rest.now result tokens.new.rest.now }
-        ensures room { OnOk result (level < self.now.depth) }
-    {
-        if level >= self.depth {
-            return Err(if tokens.sees_word(wanted) {
-                ParseError::Deep
-            } else {
-                ParseError::Wrong
-            });
-        }
-        tokens.take_word(wanted)
-    }
-
-    /// Takes a symbol that opens a bracket.
-    #[tactic(auto, using(crate::proofs::Opening::opened_room, crate::proofs::Opening::opened_deep, crate::proofs::Opening::opened_wrong))]
-    pub fn open_symbol(
-        &self,
-        tokens: &mut Cursor<'_>,
-        wanted: Symbol,
-        level: usize,
-    ) -> Result<Token, ParseError>
-        ensures takes { Reads (opened self.now.depth level (code (class.symbol wanted)) tokens.old.rest.now) tokens.old.rest.now result tokens.new.rest.now }
-        ensures room { OnOk result (level < self.now.depth) }
-    {
-        if level >= self.depth {
-            return Err(if tokens.sees_symbol(wanted) {
-                ParseError::Deep
-            } else {
-                ParseError::Wrong
-            });
-        }
-        tokens.take_symbol(wanted)
-    }
-
     /// An expression inside so many brackets of the line.
     pub fn again(&self, tokens: &mut Cursor<'_>, level: usize) -> Result<Expr, ParseError>
         requires nests { Nests self.now.depth (F.pre self.now.expr) (F.post self.now.expr) }

@@ -6,20 +6,19 @@ ghost use Rattle.df_syntax.specs.Grammar as line;
 ghost use Rattle.df_syntax.specs.Lines.{start};
 ghost use Rattle.df_syntax.specs.TokenClasses.{class};
 ghost use Rattle.df_syntax.specs.Reading.{reads};
-ghost use Rattle.df_grammar.specs.Reads.{Reads, plain};
+ghost use Rattle.df_cursor.specs.Reads.{Reads, plain};
 
-use crate::cursor::Cursor;
 use crate::descent::Descent;
-use crate::error::ParseError;
+use df_cursor::cursor::Cursor;
+use df_cursor::error::ParseError;
 use df_syntax::symbol::Symbol;
 use df_syntax::token::Token;
-use df_syntax::tree::{Expr, Named};
+use df_syntax::tree::Named;
 use df_syntax::word::Reserved;
 use df_values::kinds::{Op, Rel, Test};
 use df_values::values::Basic;
-use std::alloc::Global;
 
-impl<F: Fn(Global, &mut Cursor<'_>, usize) -> Result<Expr, ParseError>> Descent<F> {
+impl<F> Descent<F> {
     /// A name where it is bound, inside one bracket or two.
     #[tactic(auto, unfolding(df_syntax::specs::Grammar::bound, df_forms::specs::Reading::read))]
     pub fn bound(&self, tokens: &mut Cursor<'_>) -> Result<Named, ParseError>
@@ -34,7 +33,6 @@ impl<F: Fn(Global, &mut Cursor<'_>, usize) -> Result<Expr, ParseError>> Descent<
     }
 
     /// A basic type.
-    #[tactic(auto, unfolding(df_syntax::specs::Grammar::basic_type, df_forms::specs::Reading::read, crate::specs::Reads::plain))]
     pub fn basic_type(&self, tokens: &mut Cursor<'_>) -> Result<Basic, ParseError>
         ensures { Reads (plain line.basic_type tokens.old.rest.now) tokens.old.rest.now result tokens.new.rest.now }
     {
@@ -48,7 +46,6 @@ impl<F: Fn(Global, &mut Cursor<'_>, usize) -> Result<Expr, ParseError>> Descent<
     }
 
     /// `*` or `/`.
-    #[tactic(auto, unfolding(df_syntax::specs::Grammar::factor_op, df_forms::specs::Reading::read))]
     pub fn factor_op(&self, tokens: &mut Cursor<'_>) -> Result<Op, ParseError>
         ensures { Reads (reads self.now.depth 0 line.factor_op tokens.old.rest.now) tokens.old.rest.now result tokens.new.rest.now }
     {
@@ -62,7 +59,6 @@ impl<F: Fn(Global, &mut Cursor<'_>, usize) -> Result<Expr, ParseError>> Descent<
     }
 
     /// `+` or `-`.
-    #[tactic(auto, unfolding(df_syntax::specs::Grammar::term_op, df_forms::specs::Reading::read))]
     pub fn term_op(&self, tokens: &mut Cursor<'_>) -> Result<Op, ParseError>
         ensures { Reads (reads self.now.depth 0 line.term_op tokens.old.rest.now) tokens.old.rest.now result tokens.new.rest.now }
     {
@@ -76,7 +72,6 @@ impl<F: Fn(Global, &mut Cursor<'_>, usize) -> Result<Expr, ParseError>> Descent<
     }
 
     /// One of the six comparisons.
-    #[tactic(auto, unfolding(df_syntax::specs::Grammar::comparison, df_forms::specs::Reading::read))]
     pub fn comparison(&self, tokens: &mut Cursor<'_>) -> Result<Rel, ParseError>
         ensures { Reads (reads self.now.depth 0 line.comparison tokens.old.rest.now) tokens.old.rest.now result tokens.new.rest.now }
     {
@@ -102,7 +97,6 @@ impl<F: Fn(Global, &mut Cursor<'_>, usize) -> Result<Expr, ParseError>> Descent<
     }
 
     /// `mod`, `min` or `max`, and the token itself.
-    #[tactic(auto, unfolding(df_syntax::specs::Grammar::two_place_op, df_forms::specs::Reading::read))]
     pub fn two_place_op(&self, tokens: &mut Cursor<'_>) -> Result<(Token, Op), ParseError>
         ensures { Reads (reads self.now.depth 0 line.two_place_op tokens.old.rest.now) tokens.old.rest.now result tokens.new.rest.now }
     {
@@ -119,7 +113,6 @@ impl<F: Fn(Global, &mut Cursor<'_>, usize) -> Result<Expr, ParseError>> Descent<
     }
 
     /// The operator of a fold.
-    #[tactic(auto, unfolding(df_syntax::specs::Grammar::fold_op, df_forms::specs::Reading::read))]
     pub fn fold_op(&self, tokens: &mut Cursor<'_>) -> Result<Op, ParseError>
         ensures { Reads (reads self.now.depth 1 line.fold_op tokens.old.rest.now) tokens.old.rest.now result tokens.new.rest.now }
     {
@@ -145,7 +138,6 @@ impl<F: Fn(Global, &mut Cursor<'_>, usize) -> Result<Expr, ParseError>> Descent<
     }
 
     /// What a test asks for.
-    #[tactic(auto, unfolding(df_syntax::specs::Grammar::tested, df_forms::specs::Reading::read))]
     pub fn tested(&self, tokens: &mut Cursor<'_>) -> Result<Test, ParseError>
         ensures { Reads (reads self.now.depth 0 line.tested tokens.old.rest.now) tokens.old.rest.now result tokens.new.rest.now }
     {

@@ -4,10 +4,10 @@ ghost use Rattle.df_syntax.specs.Refusals.{Answer, IsAnswer, most_open};
 ghost use Rattle.df_syntax.specs.WellBuilt.{IsWellBuilt};
 ghost use Rattle.df_grammar.specs.Answers.{IsAnswered, IsThis, of_kind, refusal};
 
-use crate::cursor::Cursor;
 use crate::descent::Descent;
-use crate::error::ParseError;
 use crate::terms::expr;
+use df_cursor::cursor::Cursor;
+use df_cursor::error::ParseError;
 use df_io::Place;
 use df_syntax::program::Program;
 use df_syntax::token::{Token, TokenKind, Tokens};

@@ -6,11 +6,11 @@ ghost use Rattle.df_syntax.specs.Grammar as line;
 ghost use Rattle.df_syntax.specs.Lines as read;
 ghost use Rattle.df_syntax.specs.Reading.{reads};
 ghost use Rattle.df_grammar.specs.Nests.{Nests};
-ghost use Rattle.df_grammar.specs.Reads.{Reads};
+ghost use Rattle.df_cursor.specs.Reads.{Reads};
 
-use crate::cursor::Cursor;
 use crate::descent::{Descent, node};
-use crate::error::ParseError;
+use df_cursor::cursor::Cursor;
+use df_cursor::error::ParseError;
 use df_io::Place;
 use df_syntax::symbol::Symbol;
 use df_syntax::tree::{Expr, Node};
@@ -44,9 +44,9 @@ fn integer_error(alloc: Global, place: Place, value: ErrorValue) -> Result<Expr,
     )
 }
 
-impl<F: Fn(Global, &mut Cursor<'_>, usize) -> Result<Expr, ParseError>> Descent<F> {
+impl<F> Descent<F> {
     /// A number or a truth value.
-    #[tactic(auto, unfolding(df_syntax::specs::Grammar::literal, df_forms::specs::Reading::read, crate::specs::Reads::opened))]
+    #[tactic(auto, unfolding(df_syntax::specs::Grammar::literal, df_forms::specs::Reading::read, df_cursor::specs::Reads::opened))]
     pub fn literal(&self, tokens: &mut Cursor<'_>) -> Result<Expr, ParseError>
         ensures { Reads (reads self.now.depth 0 line.literal tokens.old.rest.now) tokens.old.rest.now result tokens.new.rest.now }
     {
@@ -63,18 +63,17 @@ impl<F: Fn(Global, &mut Cursor<'_>, usize) -> Result<Expr, ParseError>> Descent<
     }
 
     /// A basic type in brackets.
-    #[tactic(auto, using(crate::proofs::Levels::plain_basic_type, crate::proofs::Levels::level_basic_type), unfolding(df_syntax::specs::Grammar::of_basic, df_forms::specs::Reading::read, crate::specs::Reads::opened))]
     pub fn of_basic(&self, tokens: &mut Cursor<'_>, level: usize) -> Result<Basic, ParseError>
         ensures { Reads (reads self.now.depth level line.of_basic tokens.old.rest.now) tokens.old.rest.now result tokens.new.rest.now }
     {
-        self.open_symbol(tokens, Symbol::LeftBracket, level)?;
+        tokens.open_symbol(Symbol::LeftBracket, level, self.depth)?;
         let basic = self.basic_type(tokens)?;
         tokens.take_symbol(Symbol::RightBracket)?;
         Ok(basic)
     }
 
     /// An error value that is written with its type.
-    #[tactic(auto, unfolding(df_syntax::specs::Grammar::typed_error, df_forms::specs::Reading::read, crate::specs::Reads::opened))]
+    #[tactic(auto, unfolding(df_syntax::specs::Grammar::typed_error, df_forms::specs::Reading::read, df_cursor::specs::Reads::opened))]
     pub fn typed_error(&self, tokens: &mut Cursor<'_>) -> Result<Expr, ParseError>
         ensures { Reads (reads self.now.depth 0 line.typed_error tokens.old.rest.now) tokens.old.rest.now result tokens.new.rest.now }
     {
@@ -88,7 +87,7 @@ impl<F: Fn(Global, &mut Cursor<'_>, usize) -> Result<Expr, ParseError>> Descent<
     }
 
     /// An error value that is an integer alone.
-    #[tactic(auto, unfolding(df_syntax::specs::Grammar::integer_error, df_forms::specs::Reading::read, crate::specs::Reads::opened))]
+    #[tactic(auto, unfolding(df_syntax::specs::Grammar::integer_error, df_forms::specs::Reading::read, df_cursor::specs::Reads::opened))]
     pub fn integer_error(&self, tokens: &mut Cursor<'_>) -> Result<Expr, ParseError>
         ensures { Reads (reads self.now.depth 0 line.integer_error tokens.old.rest.now) tokens.old.rest.now result tokens.new.rest.now }
     {
@@ -106,14 +105,16 @@ impl<F: Fn(Global, &mut Cursor<'_>, usize) -> Result<Expr, ParseError>> Descent<
             Ok(integer_error(self.alloc, token.place, ErrorValue::ZeroDivide)?)
         }
     }
+}
 
+impl<F: Fn(Global, &mut Cursor<'_>, usize) -> Result<Expr, ParseError>> Descent<F> {
     /// What stands in brackets behind a name, and behind its colon.
-    #[tactic(auto, unfolding(df_syntax::specs::Lines::index, df_forms::specs::Reading::read, crate::specs::Reads::opened))]
+    #[tactic(auto, unfolding(df_syntax::specs::Lines::index, df_forms::specs::Reading::read, df_cursor::specs::Reads::opened))]
     pub fn index(&self, tokens: &mut Cursor<'_>) -> Result<(Expr, Option<Expr>), ParseError>
         requires { Nests self.now.depth (F.pre self.now.expr) (F.post self.now.expr) }
         ensures { Reads (reads self.now.depth 0 read.index tokens.old.rest.now) tokens.old.rest.now result tokens.new.rest.now }
     {
-        self.open_symbol(tokens, Symbol::LeftBracket, 0)?;
+        tokens.open_symbol(Symbol::LeftBracket, 0, self.depth)?;
         let at = self.again(tokens, 1)?;
         let value = if tokens.sees_symbol(Symbol::Colon) {
             tokens.take_symbol(Symbol::Colon)?;
@@ -126,19 +127,18 @@ impl<F: Fn(Global, &mut Cursor<'_>, usize) -> Result<Expr, ParseError>> Descent<
     }
 
     /// The arguments of a call, in parentheses.
-    #[tactic(auto, using(crate::proofs::Levels::level_arguments_1), unfolding(df_syntax::specs::Lines::actuals, df_forms::specs::Reading::read, crate::specs::Reads::opened))]
     pub fn actuals(&self, tokens: &mut Cursor<'_>) -> Result<Items<Expr>, ParseError>
         requires { Nests self.now.depth (F.pre self.now.expr) (F.post self.now.expr) }
         ensures { Reads (reads self.now.depth 0 read.actuals tokens.old.rest.now) tokens.old.rest.now result tokens.new.rest.now }
     {
-        self.open_symbol(tokens, Symbol::LeftParen, 0)?;
+        tokens.open_symbol(Symbol::LeftParen, 0, self.depth)?;
         let arguments = self.arguments(tokens)?;
         tokens.take_symbol(Symbol::RightParen)?;
         Ok(arguments)
     }
 
     /// A name, and what stands behind it.
-    #[tactic(auto, using(crate::proofs::Firsts::first_index, crate::proofs::Firsts::first_actuals), unfolding(df_syntax::specs::Lines::named, df_syntax::specs::Lines::suffix, df_forms::specs::Reading::read, crate::specs::Reads::opened))]
+    #[tactic(auto, using(crate::proofs::Firsts::first_index, crate::proofs::Firsts::first_actuals), unfolding(df_syntax::specs::Lines::named, df_syntax::specs::Lines::suffix, df_forms::specs::Reading::read, df_cursor::specs::Reads::opened))]
     pub fn named(&self, tokens: &mut Cursor<'_>) -> Result<Expr, ParseError>
         requires { Nests self.now.depth (F.pre self.now.expr) (F.post self.now.expr) }
         ensures { Reads (reads self.now.depth 0 read.named tokens.old.rest.now) tokens.old.rest.now result tokens.new.rest.now }
@@ -157,25 +157,23 @@ impl<F: Fn(Global, &mut Cursor<'_>, usize) -> Result<Expr, ParseError>> Descent<
     }
 
     /// An expression in parentheses.
-    #[tactic(auto, unfolding(df_syntax::specs::Grammar::parens, df_forms::specs::Reading::read, crate::specs::Reads::opened))]
     pub fn parens(&self, tokens: &mut Cursor<'_>) -> Result<Expr, ParseError>
         requires { Nests self.now.depth (F.pre self.now.expr) (F.post self.now.expr) }
         ensures { Reads (reads self.now.depth 0 line.parens tokens.old.rest.now) tokens.old.rest.now result tokens.new.rest.now }
     {
-        let token = self.open_symbol(tokens, Symbol::LeftParen, 0)?;
+        let token = tokens.open_symbol(Symbol::LeftParen, 0, self.depth)?;
         let of = self.again(tokens, 1)?;
         tokens.take_symbol(Symbol::RightParen)?;
         Ok(node(self.alloc, token.place, Node::Parens { of })?)
     }
 
     /// `mod`, `min` or `max` of two expressions.
-    #[tactic(auto, using(crate::proofs::Levels::level_two_place_op_0), unfolding(df_syntax::specs::Grammar::two_place, df_forms::specs::Reading::read, crate::specs::Reads::opened))]
     pub fn two_place(&self, tokens: &mut Cursor<'_>) -> Result<Expr, ParseError>
         requires { Nests self.now.depth (F.pre self.now.expr) (F.post self.now.expr) }
         ensures { Reads (reads self.now.depth 0 line.two_place tokens.old.rest.now) tokens.old.rest.now result tokens.new.rest.now }
     {
         let (token, op) = self.two_place_op(tokens)?;
-        self.open_symbol(tokens, Symbol::LeftParen, 0)?;
+        tokens.open_symbol(Symbol::LeftParen, 0, self.depth)?;
         let left = self.again(tokens, 1)?;
         tokens.take_symbol(Symbol::Comma)?;
         let right = self.again(tokens, 1)?;
@@ -184,26 +182,24 @@ impl<F: Fn(Global, &mut Cursor<'_>, usize) -> Result<Expr, ParseError>> Descent<
     }
 
     /// A test of an expression.
-    #[tactic(auto, using(crate::proofs::Levels::level_tested_0), unfolding(df_syntax::specs::Grammar::test_of, df_forms::specs::Reading::read, crate::specs::Reads::opened))]
     pub fn test_of(&self, tokens: &mut Cursor<'_>) -> Result<Expr, ParseError>
         requires { Nests self.now.depth (F.pre self.now.expr) (F.post self.now.expr) }
         ensures { Reads (reads self.now.depth 0 line.test_of tokens.old.rest.now) tokens.old.rest.now result tokens.new.rest.now }
     {
         let token = tokens.take_word(Reserved::Is)?;
         let test = self.tested(tokens)?;
-        self.open_symbol(tokens, Symbol::LeftParen, 0)?;
+        tokens.open_symbol(Symbol::LeftParen, 0, self.depth)?;
         let of = self.again(tokens, 1)?;
         tokens.take_symbol(Symbol::RightParen)?;
         Ok(node(self.alloc, token.place, Node::Test { test, of })?)
     }
 
     /// An array of one element.
-    #[tactic(auto, unfolding(df_syntax::specs::Grammar::one_element, df_forms::specs::Reading::read, crate::specs::Reads::opened))]
     pub fn one_element(&self, tokens: &mut Cursor<'_>) -> Result<Expr, ParseError>
         requires { Nests self.now.depth (F.pre self.now.expr) (F.post self.now.expr) }
         ensures { Reads (reads self.now.depth 0 line.one_element tokens.old.rest.now) tokens.old.rest.now result tokens.new.rest.now }
     {
-        let token = self.open_symbol(tokens, Symbol::LeftBracket, 0)?;
+        let token = tokens.open_symbol(Symbol::LeftBracket, 0, self.depth)?;
         let at = self.again(tokens, 1)?;
         tokens.take_symbol(Symbol::Colon)?;
         let value = self.again(tokens, 1)?;

@@ -5,11 +5,11 @@ ghost use Rattle.df_syntax.specs.Lines as read;
 ghost use Rattle.df_syntax.specs.Reading.{reads};
 ghost use Rattle.df_grammar.specs.Nests.{Nests};
 ghost use Rattle.df_grammar.specs.Parts as part;
-ghost use Rattle.df_grammar.specs.Reads.{Reads};
+ghost use Rattle.df_cursor.specs.Reads.{Reads};
 
-use crate::cursor::Cursor;
 use crate::descent::Descent;
-use crate::error::ParseError;
+use df_cursor::cursor::Cursor;
+use df_cursor::error::ParseError;
 use df_syntax::program::{Constant, Function, Program, Range};
 use df_syntax::symbol::Symbol;
 use df_syntax::tree::{Expr, Named, Parameter, Sort};
@@ -40,9 +40,100 @@ fn all_of(alloc: Global, groups: &[Items<Parameter>]) -> Result<Items<Parameter>
     Ok(all)
 }
 
+impl<F> Descent<F> {
+    /// A name behind a comma.
+    pub fn next_name(&self, tokens: &mut Cursor<'_>) -> Result<Named, ParseError>
+        ensures { Reads (reads self.now.depth 2 part.next_name tokens.old.rest.now) tokens.old.rest.now result tokens.new.rest.now }
+    {
+        tokens.take_symbol(Symbol::Comma)?;
+        self.bound(tokens)
+    }
+
+    /// One name or more.
+    #[tactic(auto, using(crate::proofs::Levels::level_bound_2), unfolding(df_syntax::specs::Grammar::names, df_forms::specs::Reading::read, df_cursor::specs::Reads::opened))]
+    pub fn names(&self, tokens: &mut Cursor<'_>) -> Result<Items<Named>, ParseError>
+        ensures { Reads (reads self.now.depth 2 line.names tokens.old.rest.now) tokens.old.rest.now result tokens.new.rest.now }
+    {
+        let first = self.bound(tokens)?;
+        let mut all = Items::new(self.alloc);
+        all.push(first)?;
+        'parts: while tokens.sees_symbol(Symbol::Comma) {
+            all.push(self.next_name(tokens)?)?;
+        }
+        Ok(all)
+    }
+
+    /// Parameters of one type.
+    #[tactic(auto, using(crate::proofs::Levels::level_names_2), unfolding(df_syntax::specs::Grammar::group, df_forms::specs::Reading::read, df_cursor::specs::Reads::opened))]
+    pub fn group(&self, tokens: &mut Cursor<'_>) -> Result<Items<Parameter>, ParseError>
+        ensures { Reads (reads self.now.depth 2 line.group tokens.old.rest.now) tokens.old.rest.now result tokens.new.rest.now }
+    {
+        let names = self.names(tokens)?;
+        tokens.take_symbol(Symbol::Colon)?;
+        let sort = self.sort(tokens, 2)?;
+        Ok(parameters_of(self.alloc, names.as_slice(), sort)?)
+    }
+
+    /// A group behind a semicolon.
+    pub fn next_group(&self, tokens: &mut Cursor<'_>) -> Result<Items<Parameter>, ParseError>
+        ensures { Reads (reads self.now.depth 2 part.next_group tokens.old.rest.now) tokens.old.rest.now result tokens.new.rest.now }
+    {
+        tokens.take_symbol(Symbol::Semicolon)?;
+        self.group(tokens)
+    }
+
+    /// One group or more.
+    #[tactic(auto, using(crate::proofs::Levels::level_group_2), unfolding(df_syntax::specs::Grammar::groups, df_forms::specs::Reading::read, df_cursor::specs::Reads::opened))]
+    pub fn groups(&self, tokens: &mut Cursor<'_>) -> Result<Items<Items<Parameter>>, ParseError>
+        ensures { Reads (reads self.now.depth 2 line.groups tokens.old.rest.now) tokens.old.rest.now result tokens.new.rest.now }
+    {
+        let first = self.group(tokens)?;
+        let mut all = Items::new(self.alloc);
+        all.push(first)?;
+        'parts: while tokens.sees_symbol(Symbol::Semicolon) {
+            all.push(self.next_group(tokens)?)?;
+        }
+        Ok(all)
+    }
+
+    /// The parameters of a function, none or more.
+    #[tactic(auto, using(crate::proofs::Firsts::first_parameters), unfolding(df_syntax::specs::Grammar::declared, df_syntax::specs::Grammar::parameters, df_forms::specs::Reading::read, df_cursor::specs::Reads::opened))]
+    pub fn declared(&self, tokens: &mut Cursor<'_>) -> Result<Items<Parameter>, ParseError>
+        ensures { Reads (reads self.now.depth 2 line.declared tokens.old.rest.now) tokens.old.rest.now result tokens.new.rest.now }
+    {
+        if tokens.sees_name() {
+            let groups = self.groups(tokens)?;
+            Ok(all_of(self.alloc, groups.as_slice())?)
+        } else {
+            Ok(Items::new(self.alloc))
+        }
+    }
+
+    /// A type behind a comma.
+    pub fn next_type(&self, tokens: &mut Cursor<'_>) -> Result<Sort, ParseError>
+        ensures { Reads (reads self.now.depth 2 part.next_type tokens.old.rest.now) tokens.old.rest.now result tokens.new.rest.now }
+    {
+        tokens.take_symbol(Symbol::Comma)?;
+        self.sort(tokens, 2)
+    }
+
+    /// The types of the results, one or more.
+    #[tactic(auto, using(crate::proofs::Levels::level_sort_2), unfolding(df_syntax::specs::Grammar::results, df_forms::specs::Reading::read, df_cursor::specs::Reads::opened))]
+    pub fn results(&self, tokens: &mut Cursor<'_>) -> Result<Items<Sort>, ParseError>
+        ensures { Reads (reads self.now.depth 2 line.results tokens.old.rest.now) tokens.old.rest.now result tokens.new.rest.now }
+    {
+        let first = self.sort(tokens, 2)?;
+        let mut all = Items::new(self.alloc);
+        all.push(first)?;
+        'parts: while tokens.sees_symbol(Symbol::Comma) {
+            all.push(self.next_type(tokens)?)?;
+        }
+        Ok(all)
+    }
+}
+
 impl<F: Fn(Global, &mut Cursor<'_>, usize) -> Result<Expr, ParseError>> Descent<F> {
     /// `constant name = value;`
-    #[tactic(auto, using(crate::proofs::Levels::level_bound_1), unfolding(df_syntax::specs::Grammar::constant, df_forms::specs::Reading::read, crate::specs::Reads::opened))]
     pub fn constant(&self, tokens: &mut Cursor<'_>) -> Result<Constant, ParseError>
         requires nests { Nests self.now.depth (F.pre self.now.expr) (F.post self.now.expr) }
         requires inside { 0 < self.now.depth }
@@ -57,7 +148,7 @@ impl<F: Fn(Global, &mut Cursor<'_>, usize) -> Result<Expr, ParseError>> Descent<
     }
 
     /// None or more constants.
-    #[tactic(auto, using(crate::proofs::Firsts::first_constant), unfolding(df_syntax::specs::Grammar::constants, df_forms::specs::Reading::read, crate::specs::Reads::opened))]
+    #[tactic(auto, using(crate::proofs::Firsts::first_constant), unfolding(df_syntax::specs::Grammar::constants, df_forms::specs::Reading::read, df_cursor::specs::Reads::opened))]
     pub fn constants(&self, tokens: &mut Cursor<'_>) -> Result<Items<Constant>, ParseError>
         requires nests { Nests self.now.depth (F.pre self.now.expr) (F.post self.now.expr) }
         requires inside { 0 < self.now.depth }
@@ -71,7 +162,6 @@ impl<F: Fn(Global, &mut Cursor<'_>, usize) -> Result<Expr, ParseError>> Descent<
     }
 
     /// `range name [low, high];`
-    #[tactic(auto, using(crate::proofs::Levels::level_bound_1, crate::proofs::Levels::level_bounds_1), unfolding(df_syntax::specs::Grammar::range, df_forms::specs::Reading::read, crate::specs::Reads::opened))]
     pub fn range(&self, tokens: &mut Cursor<'_>) -> Result<Range, ParseError>
         requires nests { Nests self.now.depth (F.pre self.now.expr) (F.post self.now.expr) }
         requires inside { 0 < self.now.depth }
@@ -85,7 +175,7 @@ impl<F: Fn(Global, &mut Cursor<'_>, usize) -> Result<Expr, ParseError>> Descent<
     }
 
     /// None or more ranges.
-    #[tactic(auto, using(crate::proofs::Firsts::first_range), unfolding(df_syntax::specs::Grammar::ranges, df_forms::specs::Reading::read, crate::specs::Reads::opened))]
+    #[tactic(auto, using(crate::proofs::Firsts::first_range), unfolding(df_syntax::specs::Grammar::ranges, df_forms::specs::Reading::read, df_cursor::specs::Reads::opened))]
     pub fn ranges(&self, tokens: &mut Cursor<'_>) -> Result<Items<Range>, ParseError>
         requires nests { Nests self.now.depth (F.pre self.now.expr) (F.post self.now.expr) }
         requires inside { 0 < self.now.depth }
@@ -98,101 +188,7 @@ impl<F: Fn(Global, &mut Cursor<'_>, usize) -> Result<Expr, ParseError>> Descent<
         Ok(all)
     }
 
-    /// A name behind a comma.
-    #[tactic(auto, unfolding(crate::specs::Parts::next_name, df_forms::specs::Reading::read, crate::specs::Reads::opened))]
-    pub fn next_name(&self, tokens: &mut Cursor<'_>) -> Result<Named, ParseError>
-        ensures { Reads (reads self.now.depth 2 part.next_name tokens.old.rest.now) tokens.old.rest.now result tokens.new.rest.now }
-    {
-        tokens.take_symbol(Symbol::Comma)?;
-        self.bound(tokens)
-    }
-
-    /// One name or more.
-    #[tactic(auto, using(crate::proofs::Levels::level_bound_2), unfolding(df_syntax::specs::Grammar::names, df_forms::specs::Reading::read, crate::specs::Reads::opened))]
-    pub fn names(&self, tokens: &mut Cursor<'_>) -> Result<Items<Named>, ParseError>
-        ensures { Reads (reads self.now.depth 2 line.names tokens.old.rest.now) tokens.old.rest.now result tokens.new.rest.now }
-    {
-        let first = self.bound(tokens)?;
-        let mut all = Items::new(self.alloc);
-        all.push(first)?;
-        'parts: while tokens.sees_symbol(Symbol::Comma) {
-            all.push(self.next_name(tokens)?)?;
-        }
-        Ok(all)
-    }
-
-    /// Parameters of one type.
-    #[tactic(auto, using(crate::proofs::Levels::level_names_2), unfolding(df_syntax::specs::Grammar::group, df_forms::specs::Reading::read, crate::specs::Reads::opened))]
-    pub fn group(&self, tokens: &mut Cursor<'_>) -> Result<Items<Parameter>, ParseError>
-        ensures { Reads (reads self.now.depth 2 line.group tokens.old.rest.now) tokens.old.rest.now result tokens.new.rest.now }
-    {
-        let names = self.names(tokens)?;
-        tokens.take_symbol(Symbol::Colon)?;
-        let sort = self.sort(tokens, 2)?;
-        Ok(parameters_of(self.alloc, names.as_slice(), sort)?)
-    }
-
-    /// A group behind a semicolon.
-    #[tactic(auto, unfolding(crate::specs::Parts::next_group, df_forms::specs::Reading::read, crate::specs::Reads::opened))]
-    pub fn next_group(&self, tokens: &mut Cursor<'_>) -> Result<Items<Parameter>, ParseError>
-        ensures { Reads (reads self.now.depth 2 part.next_group tokens.old.rest.now) tokens.old.rest.now result tokens.new.rest.now }
-    {
-        tokens.take_symbol(Symbol::Semicolon)?;
-        self.group(tokens)
-    }
-
-    /// One group or more.
-    #[tactic(auto, using(crate::proofs::Levels::level_group_2), unfolding(df_syntax::specs::Grammar::groups, df_forms::specs::Reading::read, crate::specs::Reads::opened))]
-    pub fn groups(&self, tokens: &mut Cursor<'_>) -> Result<Items<Items<Parameter>>, ParseError>
-        ensures { Reads (reads self.now.depth 2 line.groups tokens.old.rest.now) tokens.old.rest.now result tokens.new.rest.now }
-    {
-        let first = self.group(tokens)?;
-        let mut all = Items::new(self.alloc);
-        all.push(first)?;
-        'parts: while tokens.sees_symbol(Symbol::Semicolon) {
-            all.push(self.next_group(tokens)?)?;
-        }
-        Ok(all)
-    }
-
-    /// The parameters of a function, none or more.
-    #[tactic(auto, using(crate::proofs::Firsts::first_parameters), unfolding(df_syntax::specs::Grammar::declared, df_syntax::specs::Grammar::parameters, df_forms::specs::Reading::read, crate::specs::Reads::opened))]
-    pub fn declared(&self, tokens: &mut Cursor<'_>) -> Result<Items<Parameter>, ParseError>
-        ensures { Reads (reads self.now.depth 2 line.declared tokens.old.rest.now) tokens.old.rest.now result tokens.new.rest.now }
-    {
-        if tokens.sees_name() {
-            let groups = self.groups(tokens)?;
-            Ok(all_of(self.alloc, groups.as_slice())?)
-        } else {
-            Ok(Items::new(self.alloc))
-        }
-    }
-
-    /// A type behind a comma.
-    #[tactic(auto, unfolding(crate::specs::Parts::next_type, df_forms::specs::Reading::read, crate::specs::Reads::opened))]
-    pub fn next_type(&self, tokens: &mut Cursor<'_>) -> Result<Sort, ParseError>
-        ensures { Reads (reads self.now.depth 2 part.next_type tokens.old.rest.now) tokens.old.rest.now result tokens.new.rest.now }
-    {
-        tokens.take_symbol(Symbol::Comma)?;
-        self.sort(tokens, 2)
-    }
-
-    /// The types of the results, one or more.
-    #[tactic(auto, using(crate::proofs::Levels::level_sort_2), unfolding(df_syntax::specs::Grammar::results, df_forms::specs::Reading::read, crate::specs::Reads::opened))]
-    pub fn results(&self, tokens: &mut Cursor<'_>) -> Result<Items<Sort>, ParseError>
-        ensures { Reads (reads self.now.depth 2 line.results tokens.old.rest.now) tokens.old.rest.now result tokens.new.rest.now }
-    {
-        let first = self.sort(tokens, 2)?;
-        let mut all = Items::new(self.alloc);
-        all.push(first)?;
-        'parts: while tokens.sees_symbol(Symbol::Comma) {
-            all.push(self.next_type(tokens)?)?;
-        }
-        Ok(all)
-    }
-
     /// A function.
-    #[tactic(auto, using(crate::proofs::Levels::level_bound_1, crate::proofs::Levels::level_declared_2, crate::proofs::Levels::level_results_2, crate::proofs::Levels::level_exprs_1), unfolding(df_syntax::specs::Grammar::function, df_forms::specs::Reading::read, crate::specs::Reads::opened))]
     pub fn function(&self, tokens: &mut Cursor<'_>) -> Result<Function, ParseError>
         requires nests { Nests self.now.depth (F.pre self.now.expr) (F.post self.now.expr) }
         requires inside { 0 < self.now.depth }
@@ -200,7 +196,7 @@ impl<F: Fn(Global, &mut Cursor<'_>, usize) -> Result<Expr, ParseError>> Descent<
     {
         tokens.take_word(Reserved::Function)?;
         let name = self.bound(tokens)?;
-        self.open_symbol(tokens, Symbol::LeftParen, 1)?;
+        tokens.open_symbol(Symbol::LeftParen, 1, self.depth)?;
         let parameters = self.declared(tokens)?;
         tokens.take_word(Reserved::Returns)?;
         let results = self.results(tokens)?;
@@ -216,7 +212,7 @@ impl<F: Fn(Global, &mut Cursor<'_>, usize) -> Result<Expr, ParseError>> Descent<
     }
 
     /// One function or more.
-    #[tactic(auto, using(crate::proofs::Levels::level_function_1, crate::proofs::Firsts::first_function), unfolding(df_syntax::specs::Grammar::functions, df_forms::specs::Reading::read, crate::specs::Reads::opened))]
+    #[tactic(auto, using(crate::proofs::Levels::level_function_1, crate::proofs::Firsts::first_function), unfolding(df_syntax::specs::Grammar::functions, df_forms::specs::Reading::read, df_cursor::specs::Reads::opened))]
     pub fn functions(&self, tokens: &mut Cursor<'_>) -> Result<Items<Function>, ParseError>
         requires nests { Nests self.now.depth (F.pre self.now.expr) (F.post self.now.expr) }
         requires inside { 0 < self.now.depth }
@@ -232,7 +228,6 @@ impl<F: Fn(Global, &mut Cursor<'_>, usize) -> Result<Expr, ParseError>> Descent<
     }
 
     /// A source.
-    #[tactic(auto, using(crate::proofs::Levels::level_constants_1, crate::proofs::Levels::level_ranges_1), unfolding(df_syntax::specs::Grammar::source, df_forms::specs::Reading::read, crate::specs::Reads::opened))]
     pub fn source(&self, tokens: &mut Cursor<'_>) -> Result<Program, ParseError>
         requires nests { Nests self.now.depth (F.pre self.now.expr) (F.post self.now.expr) }
         requires inside { 0 < self.now.depth }

@@ -5,11 +5,11 @@ ghost use Rattle.df_syntax.specs.Lines as read;
 ghost use Rattle.df_syntax.specs.Reading.{reads};
 ghost use Rattle.df_grammar.specs.Nests.{Nests};
 ghost use Rattle.df_grammar.specs.Parts as part;
-ghost use Rattle.df_grammar.specs.Reads.{Reads};
+ghost use Rattle.df_cursor.specs.Reads.{Reads};
 
-use crate::cursor::Cursor;
 use crate::descent::{Descent, chain, node};
-use crate::error::ParseError;
+use df_cursor::cursor::Cursor;
+use df_cursor::error::ParseError;
 use df_syntax::symbol::Symbol;
 use df_syntax::tree::{Expr, Link, Node};
 use df_syntax::word::Reserved;
@@ -32,7 +32,7 @@ fn compared(alloc: Global, left: Expr, right: Option<(Rel, Expr)>) -> Result<Exp
 
 impl<F: Fn(Global, &mut Cursor<'_>, usize) -> Result<Expr, ParseError>> Descent<F> {
     /// An expression that begins with a word or a bracket of its own.
-    #[tactic(auto, using(crate::proofs::Firsts::first_parens, crate::proofs::Firsts::first_test_of, crate::proofs::Firsts::first_one_element, crate::proofs::Firsts::first_block, crate::proofs::Firsts::first_choice, crate::proofs::Firsts::first_all_indices), unfolding(df_syntax::specs::Lines::others, df_forms::specs::Reading::read, crate::specs::Reads::opened))]
+    #[tactic(auto, using(crate::proofs::Firsts::first_parens, crate::proofs::Firsts::first_test_of, crate::proofs::Firsts::first_one_element, crate::proofs::Firsts::first_block, crate::proofs::Firsts::first_choice, crate::proofs::Firsts::first_all_indices), unfolding(df_syntax::specs::Lines::others, df_forms::specs::Reading::read, df_cursor::specs::Reads::opened))]
     pub fn other(&self, tokens: &mut Cursor<'_>) -> Result<Expr, ParseError>
         requires { Nests self.now.depth (F.pre self.now.expr) (F.post self.now.expr) }
         ensures { Reads (reads self.now.depth 0 read.others tokens.old.rest.now) tokens.old.rest.now result tokens.new.rest.now }
@@ -57,7 +57,7 @@ impl<F: Fn(Global, &mut Cursor<'_>, usize) -> Result<Expr, ParseError>> Descent<
     }
 
     /// An expression without operators.
-    #[tactic(auto, using(crate::proofs::Firsts::first_named), unfolding(df_syntax::specs::Lines::primary, df_forms::specs::Reading::read, crate::specs::Reads::opened))]
+    #[tactic(auto, using(crate::proofs::Firsts::first_named), unfolding(df_syntax::specs::Lines::primary, df_forms::specs::Reading::read, df_cursor::specs::Reads::opened))]
     pub fn primary(&self, tokens: &mut Cursor<'_>) -> Result<Expr, ParseError>
         requires { Nests self.now.depth (F.pre self.now.expr) (F.post self.now.expr) }
         ensures { Reads (reads self.now.depth 0 read.primary tokens.old.rest.now) tokens.old.rest.now result tokens.new.rest.now }
@@ -76,7 +76,7 @@ impl<F: Fn(Global, &mut Cursor<'_>, usize) -> Result<Expr, ParseError>> Descent<
     }
 
     /// An operand of a product.
-    #[tactic(auto, unfolding(df_syntax::specs::Lines::factor, df_forms::specs::Reading::read, crate::specs::Reads::opened))]
+    #[tactic(auto, unfolding(df_syntax::specs::Lines::factor, df_forms::specs::Reading::read, df_cursor::specs::Reads::opened))]
     pub fn factor(&self, tokens: &mut Cursor<'_>) -> Result<Expr, ParseError>
         requires { Nests self.now.depth (F.pre self.now.expr) (F.post self.now.expr) }
         ensures { Reads (reads self.now.depth 0 read.factor tokens.old.rest.now) tokens.old.rest.now result tokens.new.rest.now }
@@ -91,7 +91,6 @@ impl<F: Fn(Global, &mut Cursor<'_>, usize) -> Result<Expr, ParseError>> Descent<
     }
 
     /// An operator of a product and its right operand.
-    #[tactic(auto, using(crate::proofs::Levels::level_factor_op_0), unfolding(df_syntax::specs::Lines::factor_link, df_forms::specs::Reading::read, crate::specs::Reads::opened))]
     pub fn factor_link(&self, tokens: &mut Cursor<'_>) -> Result<Link, ParseError>
         requires { Nests self.now.depth (F.pre self.now.expr) (F.post self.now.expr) }
         ensures { Reads (reads self.now.depth 0 read.factor_link tokens.old.rest.now) tokens.old.rest.now result tokens.new.rest.now }
@@ -102,7 +101,7 @@ impl<F: Fn(Global, &mut Cursor<'_>, usize) -> Result<Expr, ParseError>> Descent<
     }
 
     /// A product.
-    #[tactic(auto, using(crate::proofs::Levels::level_factor, crate::proofs::Firsts::first_factor_link), unfolding(df_syntax::specs::Lines::term, df_forms::specs::Reading::read, crate::specs::Reads::opened))]
+    #[tactic(auto, using(crate::proofs::Levels::level_factor, df_cursor::proofs::Firsts::first_factor_link), unfolding(df_syntax::specs::Lines::term, df_forms::specs::Reading::read, df_cursor::specs::Reads::opened))]
     pub fn term(&self, tokens: &mut Cursor<'_>) -> Result<Expr, ParseError>
         requires { Nests self.now.depth (F.pre self.now.expr) (F.post self.now.expr) }
         ensures { Reads (reads self.now.depth 0 read.term tokens.old.rest.now) tokens.old.rest.now result tokens.new.rest.now }
@@ -116,7 +115,6 @@ impl<F: Fn(Global, &mut Cursor<'_>, usize) -> Result<Expr, ParseError>> Descent<
     }
 
     /// An operator of a sum and its right operand.
-    #[tactic(auto, using(crate::proofs::Levels::level_term_op_0), unfolding(df_syntax::specs::Lines::term_link, df_forms::specs::Reading::read, crate::specs::Reads::opened))]
     pub fn term_link(&self, tokens: &mut Cursor<'_>) -> Result<Link, ParseError>
         requires { Nests self.now.depth (F.pre self.now.expr) (F.post self.now.expr) }
         ensures { Reads (reads self.now.depth 0 read.term_link tokens.old.rest.now) tokens.old.rest.now result tokens.new.rest.now }
@@ -127,7 +125,7 @@ impl<F: Fn(Global, &mut Cursor<'_>, usize) -> Result<Expr, ParseError>> Descent<
     }
 
     /// A sum.
-    #[tactic(auto, using(crate::proofs::Levels::level_term, crate::proofs::Firsts::first_term_link), unfolding(df_syntax::specs::Lines::sum, df_forms::specs::Reading::read, crate::specs::Reads::opened))]
+    #[tactic(auto, using(crate::proofs::Levels::level_term, df_cursor::proofs::Firsts::first_term_link), unfolding(df_syntax::specs::Lines::sum, df_forms::specs::Reading::read, df_cursor::specs::Reads::opened))]
     pub fn sum(&self, tokens: &mut Cursor<'_>) -> Result<Expr, ParseError>
         requires { Nests self.now.depth (F.pre self.now.expr) (F.post self.now.expr) }
         ensures { Reads (reads self.now.depth 0 read.sum tokens.old.rest.now) tokens.old.rest.now result tokens.new.rest.now }
@@ -141,7 +139,7 @@ impl<F: Fn(Global, &mut Cursor<'_>, usize) -> Result<Expr, ParseError>> Descent<
     }
 
     /// A sum, or two and the comparison between them.
-    #[tactic(auto, using(crate::proofs::Levels::level_sum, crate::proofs::Levels::level_comparison_0, crate::proofs::Starts::first_compared), unfolding(df_syntax::specs::Lines::relation, df_forms::specs::Reading::read, crate::specs::Reads::opened))]
+    #[tactic(auto, using(crate::proofs::Levels::level_sum, crate::proofs::Levels::level_comparison_0, crate::proofs::Firsts::first_compared), unfolding(df_syntax::specs::Lines::relation, df_forms::specs::Reading::read, df_cursor::specs::Reads::opened))]
     pub fn relation(&self, tokens: &mut Cursor<'_>) -> Result<Expr, ParseError>
         requires { Nests self.now.depth (F.pre self.now.expr) (F.post self.now.expr) }
         ensures { Reads (reads self.now.depth 0 read.relation tokens.old.rest.now) tokens.old.rest.now result tokens.new.rest.now }
@@ -157,7 +155,7 @@ impl<F: Fn(Global, &mut Cursor<'_>, usize) -> Result<Expr, ParseError>> Descent<
     }
 
     /// An operand of `&`.
-    #[tactic(auto, unfolding(df_syntax::specs::Lines::inversion, df_forms::specs::Reading::read, crate::specs::Reads::opened))]
+    #[tactic(auto, unfolding(df_syntax::specs::Lines::inversion, df_forms::specs::Reading::read, df_cursor::specs::Reads::opened))]
     pub fn inversion(&self, tokens: &mut Cursor<'_>) -> Result<Expr, ParseError>
         requires { Nests self.now.depth (F.pre self.now.expr) (F.post self.now.expr) }
         ensures { Reads (reads self.now.depth 0 read.inversion tokens.old.rest.now) tokens.old.rest.now result tokens.new.rest.now }
@@ -172,7 +170,6 @@ impl<F: Fn(Global, &mut Cursor<'_>, usize) -> Result<Expr, ParseError>> Descent<
     }
 
     /// `&` and its right operand.
-    #[tactic(auto, unfolding(df_syntax::specs::Lines::inversion_link, df_forms::specs::Reading::read, crate::specs::Reads::opened))]
     pub fn inversion_link(&self, tokens: &mut Cursor<'_>) -> Result<Link, ParseError>
         requires { Nests self.now.depth (F.pre self.now.expr) (F.post self.now.expr) }
         ensures { Reads (reads self.now.depth 0 read.inversion_link tokens.old.rest.now) tokens.old.rest.now result tokens.new.rest.now }
@@ -186,7 +183,7 @@ impl<F: Fn(Global, &mut Cursor<'_>, usize) -> Result<Expr, ParseError>> Descent<
     }
 
     /// Operands of `&`.
-    #[tactic(auto, using(crate::proofs::Levels::level_inversion, crate::proofs::Firsts::first_inversion_link), unfolding(df_syntax::specs::Lines::conjunction, df_forms::specs::Reading::read, crate::specs::Reads::opened))]
+    #[tactic(auto, using(crate::proofs::Levels::level_inversion, crate::proofs::Firsts::first_inversion_link), unfolding(df_syntax::specs::Lines::conjunction, df_forms::specs::Reading::read, df_cursor::specs::Reads::opened))]
     pub fn conjunction(&self, tokens: &mut Cursor<'_>) -> Result<Expr, ParseError>
         requires { Nests self.now.depth (F.pre self.now.expr) (F.post self.now.expr) }
         ensures { Reads (reads self.now.depth 0 read.conjunction tokens.old.rest.now) tokens.old.rest.now result tokens.new.rest.now }
@@ -200,7 +197,6 @@ impl<F: Fn(Global, &mut Cursor<'_>, usize) -> Result<Expr, ParseError>> Descent<
     }
 
     /// `|` and its right operand.
-    #[tactic(auto, unfolding(df_syntax::specs::Lines::conjunction_link, df_forms::specs::Reading::read, crate::specs::Reads::opened))]
     pub fn conjunction_link(&self, tokens: &mut Cursor<'_>) -> Result<Link, ParseError>
         requires { Nests self.now.depth (F.pre self.now.expr) (F.post self.now.expr) }
         ensures { Reads (reads self.now.depth 0 read.conjunction_link tokens.old.rest.now) tokens.old.rest.now result tokens.new.rest.now }
@@ -214,7 +210,7 @@ impl<F: Fn(Global, &mut Cursor<'_>, usize) -> Result<Expr, ParseError>> Descent<
     }
 
     /// Any expression.
-    #[tactic(auto, using(crate::proofs::Levels::level_conjunction, crate::proofs::Firsts::first_conjunction_link), unfolding(df_syntax::specs::Lines::expr, df_forms::specs::Reading::read, crate::specs::Reads::opened))]
+    #[tactic(auto, using(crate::proofs::Levels::level_conjunction, crate::proofs::Firsts::first_conjunction_link), unfolding(df_syntax::specs::Lines::expr, df_forms::specs::Reading::read, df_cursor::specs::Reads::opened))]
     pub fn whole(&self, tokens: &mut Cursor<'_>) -> Result<Expr, ParseError>
         requires { Nests self.now.depth (F.pre self.now.expr) (F.post self.now.expr) }
         ensures { Reads (reads self.now.depth 0 read.expr tokens.old.rest.now) tokens.old.rest.now result tokens.new.rest.now }

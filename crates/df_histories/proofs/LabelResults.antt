@@ -10,7 +10,7 @@ use Rattle.df_values.specs.declared.values.Value.TheVariants.{Error}
 use Rattle.df_values.specs.declared.values.ErrorValue.TheVariants as error
 use Rattle.df_cells.specs.declared.cells.CellId.{CellId}
 use Rattle.df_cells.specs.declared.cells.Feed.{Feed}
-use Rattle.df_cells.specs.declared.cells.Feed.TheVariants.{Arc, Constant}
+use Rattle.df_cells.specs.declared.cells.Feed.TheVariants.{Arc, Constant, Loaded}
 use Rattle.df_cells.specs.declared.cells.Cell.{Cell}
 use Rattle.df_cells.specs.declared.kinds.Kind.TheVariants as kind
 use Rattle.df_cells.specs.Kinds.{port_count, source_length}
@@ -43,6 +43,7 @@ out_fed cells w c k m is =
 hand_over : (f : Option Feed) (x : Option Value) → is_some (cell_from f) ≡ true → at_hand f x ≡ x
 hand_over None x h = cc
 hand_over (Some (Arc u)) x h = refl
+hand_over (Some (Loaded u v)) x h = refl
 hand_over (Some (Constant v)) x h = cc
 
 listed_first : (o : Option Value) (rest : List Value) → is_some o ≡ true → unwrap_or o (Error error.Undef) ∷ rest ≡ listed o ++ rest

@@ -10,12 +10,20 @@ use Rattle.df_labels.specs.Histories.{Histories, listed, supply, took, IsPrefix,
 use Rattle.df_labels.specs.Labels.{Labels, Firing, LabelsMeet, answered, received, stream_values}
 use Rattle.df_machine.specs.Runs.{after}
 use Rattle.df_machine.specs.Seen.{Loaded}
-use Rattle.df_machine.specs.States.{firings}
+use Rattle.df_machine.specs.States.{firings, told}
 use Rattle.df_histories.specs.Traces.{histories, on_the_way}
 
--- these choices lead from the start to the state
+-- the machine in the state to which these choices lead from the start, with all its firings
+abbrev pub led : Loaded → List ℕ → Loaded
+led t choices = record t { state = after t.cells t.inputs choices }
+
+-- these choices lead from the start to the state, as far as a u32 tells the numbers of firings
 abbrev pub IsAfter : Loaded → List ℕ → Type 0
-IsAfter t choices = t.state ≡ after t.cells t.inputs choices
+IsAfter t choices = t.state ≡ told (after t.cells t.inputs choices)
+
+-- they lead to the state itself
+abbrev pub IsLedBy : Loaded → List ℕ → Type 0
+IsLedBy t choices = t.state ≡ after t.cells t.inputs choices
 
 -- some choices lead from the start of well-formed cells on fitting inputs to the state
 pub record IsReached (t : Loaded) : Type 0 where
@@ -32,16 +40,16 @@ so_far t h c = take (firings t.state c) (h c)
 pub record Follows (t : Loaded) (h : Histories) : Type 0 where
   -- the firings of each cell so far are the first of its history, whatever choices led here
   pub begun : (c : ℕ) → firings t.state c ≤ length (h c)
-  pub firings : (choices : List ℕ) → IsAfter t choices → (c : ℕ) → histories t.cells t.inputs choices c ≡ so_far t h c
+  pub firings : (choices : List ℕ) → IsLedBy t choices → (c : ℕ) → histories t.cells t.inputs choices c ≡ so_far t h c
   -- on each arc, the values that the producer gave so far are those that the consumer took so far and then what is on the way
   pub arcs : (d : Dest) (u : CellId) → producer_of t.cells d ≡ Some u
       → supply t.cells t.inputs d u.0 (so_far t h u.0) ≡ took d.port.0 (so_far t h d.cell.0) ++ on_the_way t.cells t.inputs t.state u.0 d
   -- each result is a prefix of what its OUT takes
   pub results : (c k m : ℕ) → (cell_at t.cells c).kind ≡ kind.Out k m → IsPrefix (get_or t.state.results (k - 1) []) (took 0 (h c))
 
--- it follows all histories that meet its cells and inputs
+-- whatever choices led here, the state to which they lead follows all histories that meet the cells and inputs
 abbrev pub FollowsAll : Loaded → Type 0
-FollowsAll t = (h : Histories) → Meets t.cells t.inputs h → Follows t h
+FollowsAll t = (choices : List ℕ) → IsAfter t choices → (h : Histories) → Meets t.cells t.inputs h → Follows (led t choices) h
 
 -- the first firings of the label of a cell, as many as it has had
 abbrev pub fired_so_far : Loaded → Labels → ℕ → List Firing
@@ -51,7 +59,7 @@ fired_so_far t labels c = take (firings t.state c) (labels c)
 pub record AgreesWith (t : Loaded) (labels : Labels) : Type 0 where
   -- the firings of each cell so far are the first of its label, whatever choices led here
   pub begun : (c : ℕ) → firings t.state c ≤ length (labels c)
-  pub firings : (choices : List ℕ) → IsAfter t choices → (c : ℕ) → histories t.cells t.inputs choices c ≡ map (λ f. f.taken) (fired_so_far t labels c)
+  pub firings : (choices : List ℕ) → IsLedBy t choices → (c : ℕ) → histories t.cells t.inputs choices c ≡ map (λ f. f.taken) (fired_so_far t labels c)
   -- on each arc, what was loaded and then the values that the firings of the producer so far answer are, in order, the operands that
   -- the firings of the consumer so far took there, and then what is still on the way
   pub arcs : (d : Dest) (u : CellId) → producer_of t.cells d ≡ Some u
@@ -60,6 +68,6 @@ pub record AgreesWith (t : Loaded) (labels : Labels) : Type 0 where
   -- each result is a prefix of what its OUT takes
   pub results : (c k m : ℕ) → (cell_at t.cells c).kind ≡ kind.Out k m → IsPrefix (get_or t.state.results (k - 1) []) (stream_values (received 0 (labels c)))
 
--- it agrees with all labels that meet its cells and inputs
+-- whatever choices led here, the state to which they lead agrees with all labels that meet the cells and inputs
 abbrev pub AgreesWithAll : Loaded → Type 0
-AgreesWithAll t = (labels : Labels) → LabelsMeet t.cells t.inputs labels → AgreesWith t labels
+AgreesWithAll t = (choices : List ℕ) → IsAfter t choices → (labels : Labels) → LabelsMeet t.cells t.inputs labels → AgreesWith (led t choices) labels

@@ -3,8 +3,8 @@ use Rattle.std.proofs.Common.{◌≡◌, ◌≢◌, ℕ, zero, suc, ◌+◌, ◌
 use Rattle.std.specs.Prelude.{slice_get, bytes_eq, replicate, option_map}
 use Rattle.std.specs.Str.Lines.{lines}
 use Rattle.std.proofs.lemmas.Bool.{false≢true, cases_eq}
-use Rattle.std.proofs.lemmas.List.{length-append, length-map, length-set, map-set, get_or-map}
-use Rattle.std.proofs.lemmas.Option.{slice_get_within, slice_get-map, slice_get-get_or, get_or_from_slice_get}
+use Rattle.std.proofs.lemmas.List.{length-append, length-map, length-set, map-set}
+use Rattle.std.proofs.lemmas.Option.{slice_get_within, slice_get-map, slice_get-get_or}
 use Rattle.std.proofs.lemmas.Slice.Eq.{bytes_eq-Decides}
 use Rattle.df_values.specs.declared.values.Value.{Value}
 use Rattle.df_cells.specs.declared.cells.InputDecl.{InputDecl}
@@ -144,17 +144,12 @@ given_there decls places lists given name k values q j decl t h place e o =
 
 pub given_more : (decls : List InputDecl) (places new : Places) (lists after : List (List Value)) (given : Given) (name : List ℕ) (k : ℕ) (values : List Value) → HasGiven decls places lists given
     → place_of_name places name ≡ Some k → ((q : List ℕ) → place_of_name new q ≡ cond (bytes_eq name q) None (place_of_name places q))
-    → after ≡ set lists k (get_or lists k [] ++ values) → HasGiven decls new after (set given k (Some values))
+    → after ≡ set lists k values → HasGiven decls new after (set given k (Some values))
 given_more decls places new lists after given name k values h place updates more = record {
   as_many = length-set given k (Some values) ∙ h.as_many;
   found = λ q j there. given_found decls places lists given name k values q j (bytes_eq name q) h place refl (sym (updates q) ∙ there);
   there = λ q j decl o. updates q ∙ given_there decls places lists given name k values q j decl (bytes_eq name q) h place refl o;
-  listed =
-      let own = h.found name k place in
-      let none : get_or given k None ≡ None = get_or_from_slice_get given k None None own.1.empty in
-      let at : get_or lists k [] ≡ [] =
-      ap (λ ls. get_or ls k []) h.listed ∙ get_or-map (λ values. unwrap_or values []) given k None [] (slice_get_within given k None own.1.empty) ∙ ap (λ values. unwrap_or values []) none in
-      more ∙ ap (λ list. set lists k (list ++ values)) at ∙ ap (λ ls. set ls k values) h.listed ∙ sym (map-set (λ values. unwrap_or values []) given k (Some values));
+  listed = more ∙ ap (λ ls. set ls k values) h.listed ∙ sym (map-set (λ values. unwrap_or values []) given k (Some values));
 }
 
 -- ---- line after line
@@ -254,6 +249,51 @@ all_read decls text rest number places lists h ends none =
     let full : h.given ≡ map (λ values. Some values) lists =
     all_given h.given (none_open decls places lists h.given h.state none) ∙ ap (map (λ values. Some values)) (sym h.state.listed) in
     subst (TakesLines decls (nothing_given decls) (lines text)) full (all_lines decls text rest number places lists h ends)
+
+-- ---- a text has at least as many lines as inputs that it gives
+
+given_count : Given → ℕ
+given_count [] = 0
+given_count (None ∷ given) = given_count given
+given_count (Some _ ∷ given) = 1 + given_count given
+
+set_count : (given : Given) (k : ℕ) (values : List Value) → given_count (set given k (Some values)) ≤ given_count given + 1
+unfolding given_count
+set_count [] k values = omega arith
+set_count (None ∷ given) zero values = omega arith
+set_count (Some _ ∷ given) zero values = omega arith
+set_count (None ∷ given) (suc k) values = omega (arith, set_count given k values)
+set_count (Some _ ∷ given) (suc k) values = omega (arith, set_count given k values)
+
+line_count : (decls : List InputDecl) (given after : Given) (line : List ℕ) → TakesLine decls given line after → given_count after ≤ given_count given + 1
+line_count decls given after line (idle i same) = rw same (omega arith)
+line_count decls given after line (gives name values k decl a o d same) = rw same (set_count given k values)
+
+lines_count : (decls : List InputDecl) (given after : Given) (ls : List (List ℕ)) → TakesLines decls given ls after → given_count after ≤ given_count given + length ls
+lines_count decls given after [] t = rw t (omega arith)
+lines_count decls given after (line ∷ ls) t = omega (arith, line_count decls given t.0 line t.1, lines_count decls t.0 after ls t.2)
+
+none_count : (decls : List InputDecl) → given_count (nothing_given decls) ≡ 0
+unfolding given_count
+none_count [] = refl
+none_count (d ∷ decls) = none_count decls
+
+all_count : (lists : List (List Value)) → given_count (map (λ values. Some values) lists) ≡ length lists
+unfolding given_count
+all_count [] = refl
+all_count (values ∷ lists) = omega (arith, all_count lists)
+
+lines_within : (decls : List InputDecl) (text rest : List ℕ) (number : ℕ) (places : Places) (lists : List (List Value)) → (h : LinesRead decls text rest number places lists) → rest ≡ [] → length (lines text) ≤ length text
+lines_within decls text rest number places lists h ends =
+    let all : lines text ≡ h.before = h.parts ∙ ap (λ t. h.before ++ lines t) ends ∙ append-nil h.before in
+    let counted = h.counted in
+    let room = h.room in
+    omega (arith, ap length all)
+
+pub few_lists : (decls : List InputDecl) (text rest : List ℕ) (number : ℕ) (places : Places) (lists : List (List Value)) → LinesRead decls text rest number places lists → rest ≡ []
+    → TakesLines decls (nothing_given decls) (lines text) (map (λ values. Some values) lists) → length lists ≤ length text
+few_lists decls text rest number places lists h ends all =
+    omega (arith, all_count lists, none_count decls, lines_within decls text rest number places lists h ends, lines_count decls (nothing_given decls) (map (λ values. Some values) lists) (lines text) all)
 
 -- ---- what was given is as declared
 

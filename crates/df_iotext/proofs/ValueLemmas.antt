@@ -1,8 +1,8 @@
 -- Values that were spelled, and the type of an input.
-use Rattle.std.proofs.Common.{◌≡◌, ℕ, zero, suc, ◌<◌, ◌+◌, true, false, List, [], ◌∷◌, ◌++◌, length, take, get_or, set, sym, ap, ◌∙◌, append_assoc, arith, ⊎_elim, inl, inr}
-use Rattle.std.specs.Prelude.{All}
+use Rattle.std.proofs.Common.{◌≡◌, ℕ, zero, suc, ◌<◌, ◌≤◌, ◌+◌, true, false, List, [], ◌∷◌, ◌++◌, length, take, get_or, set, sym, ap, ◌∙◌, refl, arith, ⊎_elim, inl, inr}
+use Rattle.std.specs.Prelude.{All, map}
 use Rattle.std.specs.List.{AllZip, list_all, after_first}
-use Rattle.std.proofs.lemmas.List.{get_or-set_same, set-set, take_more}
+use Rattle.std.proofs.lemmas.List.{length-map, length-take-le, map_push, take_all, take_more}
 use Rattle.std.proofs.lemmas.Bool.{false≢true, true≢false, and_parts, and_cases}
 use Rattle.df_values.specs.Inputs.{HasType, IsAsDeclared}
 use Rattle.df_values.specs.declared.values.Value.{Value}
@@ -70,12 +70,37 @@ values_refused decls given line name values k decl number answer a o (inr h) =
     miscounted name values k decl a o (all_fit decl.basic (words Blanks (after_first is_sign line)) values a.spelled h.1) h.2
     (h.0 ∙ ap (λ n. WrongLength n (length values) decl.length) o.named)
 
--- one more value at the end of list k
-pub values_more : (start : List (List Value)) (k : ℕ) (values : List Value) (i : ℕ) (v d : Value) (lists new : List (List Value)) → k < length start → i < length values → v ≡ get_or values i d
-    → lists ≡ set start k (get_or start k [] ++ take i values) → new ≡ set lists k (get_or lists k [] ++ v ∷ []) → new ≡ set start k (get_or start k [] ++ take (i + 1) values)
-values_more start k values i v d lists new within below at so_far more =
-    let own : List Value = get_or start k [] in
-    more ∙ ap (λ ls. set ls k (get_or ls k [] ++ v ∷ [])) so_far
-    ∙ set-set start k (own ++ take i values) (get_or (set start k (own ++ take i values)) k [] ++ v ∷ [])
-    ∙ ap (λ l. set start k (l ++ v ∷ [])) (get_or-set_same start k (own ++ take i values) [] within)
-    ∙ ap (set start k) (append_assoc own (take i values) (v ∷ []) ∙ ap (λ t. own ++ (take i values ++ t ∷ [])) at ∙ ap (λ t. own ++ t) (sym (take_more values i d below)))
+-- ---- one more list at the end
+
+pub last_set : {A : Type 0} (xs : List A) (y z : A) → set (xs ++ y ∷ []) (length xs) z ≡ xs ++ z ∷ []
+last_set [] y z = refl
+last_set (x ∷ xs) y z = ap (λ l. x ∷ l) (last_set xs y z)
+
+pub last_get : {A : Type 0} (xs : List A) (y d : A) → get_or (xs ++ y ∷ []) (length xs) d ≡ y
+last_get [] y d = refl
+last_get (x ∷ xs) y d = last_get xs y d
+
+-- one more value at the end of the last list
+pub values_more : (start : List (List Value)) (values : List Value) (k i : ℕ) (v d : Value) (lists new : List (List Value)) → k ≡ length start → i < length values → v ≡ get_or values i d
+    → lists ≡ start ++ take i values ∷ [] → new ≡ set lists k (get_or lists k [] ++ v ∷ []) → new ≡ start ++ take (i + 1) values ∷ []
+values_more start values k i v d lists new last below at so_far more =
+    more ∙ ap (λ j. set lists j (get_or lists j [] ++ v ∷ [])) last
+    ∙ ap (λ ls. set ls (length start) (get_or ls (length start) [] ++ v ∷ [])) so_far
+    ∙ ap (λ l. set (start ++ take i values ∷ []) (length start) (l ++ v ∷ [])) (last_get start (take i values) [])
+    ∙ last_set start (take i values) (take i values ++ v ∷ [])
+    ∙ ap (λ l. start ++ l ∷ []) (ap (λ t. take i values ++ t ∷ []) at ∙ sym (take_more values i d below))
+
+-- ---- lists of lists, as far as they were gone through
+
+module _ {A B : Type 0} (f : A → B) (own items : List A) (i : ℕ) (self : List B) (is : items ≡ own) (view : map f own ≡ self) where
+  pub parts_few : (n : ℕ) (parts : List B) → i < length items → parts ≡ map f (take i items) → length self ≤ n → length parts < n
+  parts_few n parts below so_far few =
+      omega (arith, few, ap length so_far, length-map (take i items) f, length-take-le i items (omega arith), ap length is, ap length view, length-map own f)
+
+  pub parts_all : (parts : List B) → length items ≤ i → parts ≡ map f (take i items) → parts ≡ self
+  parts_all parts long so_far = so_far ∙ ap (map f) (take_all i items long ∙ is) ∙ view
+
+pub parts_more : {A B : Type 0} (f : A → B) (items : List A) (i : ℕ) (x : A) (y : B) (parts new : List B) → i < length items → x ≡ get_or items i x → y ≡ f x → parts ≡ map f (take i items)
+    → new ≡ parts ++ y ∷ [] → new ≡ map f (take (i + 1) items)
+parts_more f items i x y parts new below at same so_far more =
+    more ∙ ap (λ l. l ++ y ∷ []) so_far ∙ ap (λ z. map f (take i items) ++ z ∷ []) (same ∙ ap f at) ∙ sym (map_push f (take i items) (get_or items i x)) ∙ ap (map f) (sym (take_more items i x below))

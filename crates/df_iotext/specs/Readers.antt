@@ -21,6 +21,10 @@ Places = List (List ℕ × ℕ)
 abbrev pub place_of_name : Places → List ℕ → Option ℕ
 place_of_name places name = lookup (bytes_eq name) places
 
+-- lists of values under their numbers
+abbrev pub Lists : Type 0
+Lists = List (List Value)
+
 -- the places are those of the open inputs, and the lists what was given
 pub record HasGiven (decls : List InputDecl) (places : Places) (lists : List (List Value)) (given : Given) : Type 0 where
   pub as_many : length given ≡ length decls

@@ -1,8 +1,7 @@
 //! The text of inputs.
-ghost use Rattle.std.specs.Prelude.{◌≡◌, ◌≢◌, ◌<◌, ◌≤◌, ◌+◌, ◌++◌, ◌↔◌, ℕ, [], map, length, replicate, IsTrue, Some, None, Ok, Err, IfOk, OnOk, IfErr, IfSome, IfNone, slice_get, slice_set};
+ghost use Rattle.std.specs.Prelude.{◌≡◌, ◌≢◌, ◌≤◌, ◌↔◌, ℕ, map, length, IsTrue, Some, None, Ok, Err, IfOk, OnOk, IfErr, IfSome, IfNone, slice_get};
 ghost use Rattle.std.specs.List.{list_all};
 ghost use Rattle.df_values.specs.Inputs.{AreValid};
-ghost use Rattle.df_values.specs.Streams.{list_at};
 ghost use Rattle.df_cells.specs.declared.cells.InputDecl as input_decl;
 ghost use Rattle.df_iotext.specs.Inputs.{Given, nothing_given, TakesLine, RefusesLine, ReadsInputs, HaveOwnNames};
 ghost use Rattle.df_cells.specs.Cells.{declaration_of};
@@ -12,14 +11,13 @@ ghost use Rattle.df_iotext.specs.declared.inputs.InputAnswer.TheVariants.{Memory
 use crate::assignments::{is_idle, read_assignment};
 use crate::keys::Places;
 use crate::lines::first_line;
+use crate::lists::Lists;
 use df_cells::cells::InputDecl;
 use df_values::memory::Memory;
 use df_values::name::Name;
 use df_values::streams::Streams;
 use df_values::values::{Basic, ErrorValue, Value};
 use std::alloc::Global;
-
-const MOST_INPUTS: usize = 4_294_967_294;
 
 /// Why no inputs were read. Lines are counted from 1.
 #[derive(Clone, Copy, Debug, PartialEq, Eq)]
@@ -48,22 +46,19 @@ impl From<Memory> for InputAnswer {
 #[derive(Drop)]
 struct Reader<'a> {
     open: Places<'a>,
-    inputs: Streams,
+    inputs: Lists,
 }
 
 impl<'a> Reader<'a> {
-    // Nothing was given. More inputs than can be numbered count as want of memory.
+    // Nothing was given.
     fn new(alloc: Global, decls: &'a [InputDecl]) -> Result<Reader<'a>, Memory>
         requires { HaveOwnNames decls.now }
         ensures { IfOk result (λ reader.
-            HasGiven decls.now reader.open reader.inputs.lists (nothing_given decls.now)) }
+            HasGiven decls.now reader.open reader.inputs (nothing_given decls.now)) }
     {
-        if decls.len() > MOST_INPUTS {
-            return Err(Memory);
-        }
         Ok(Reader {
             open: all_places(alloc, decls)?,
-            inputs: empty_streams(alloc, decls.len() as u32)?,
+            inputs: Lists::empty(alloc, decls.len())?,
         })
     }
 
@@ -76,14 +71,14 @@ impl<'a> Reader<'a> {
         number: u32,
     ) -> Result<(), InputAnswer>
         requires state { (given : Given)
-            × HasGiven decls.now self.old.open self.old.inputs.lists given }
+            × HasGiven decls.now self.old.open self.old.inputs given }
         requires short { length line.now ≤ 4294967294 }
         ensures taken { OnOk result ((given : Given)
-            → HasGiven decls.now self.old.open self.old.inputs.lists given
+            → HasGiven decls.now self.old.open self.old.inputs given
             → (after : Given) × (TakesLine decls.now given line.now after
-            × HasGiven decls.now self.new.open self.new.inputs.lists after)) }
+            × HasGiven decls.now self.new.open self.new.inputs after)) }
         ensures refused { IfErr result (λ answer. answer ≢ InputAnswer.Memory
-            → (given : Given) → HasGiven decls.now self.old.open self.old.inputs.lists given
+            → (given : Given) → HasGiven decls.now self.old.open self.old.inputs given
             → RefusesLine decls.now given line.now number answer) }
     {
         if is_idle(line) {
@@ -95,8 +90,8 @@ impl<'a> Reader<'a> {
         let Some(k) = self.open.take(assignment.name) else {
             return Err(InputAnswer::ExtraInput(number));
         };
-        check_values(&decls[k as usize], &assignment.values, number)?;
-        add_values(&mut self.inputs, k, &assignment.values)?;
+        check_values(&decls[k], &assignment.values, number)?;
+        self.inputs.put(k, assignment.values);
         Ok(())
     }
 
@@ -119,27 +114,14 @@ impl<'a> Reader<'a> {
 
 // The number of each input under its name.
 fn all_places<'a>(alloc: Global, decls: &'a [InputDecl]) -> Result<Places<'a>, Memory>
-    requires names { HaveOwnNames decls.now }
-    requires few { length decls.now ≤ 4294967294 }
+    requires { HaveOwnNames decls.now }
     ensures { IfOk result (λ places. HasPlaces decls.now places (length decls.now)) }
 {
     let mut open = Places::new(alloc);
     for (k, decl) in decls.iter().enumerate() {
-        open.put(decl.name.bytes(), k as u32)?;
+        open.put(decl.name.bytes(), k)?;
     }
     Ok(open)
-}
-
-// So many streams without values.
-fn empty_streams(alloc: Global, count: u32) -> Result<Streams, Memory>
-    requires { count ≤ 4294967294 }
-    ensures { IfOk result (λ inputs. inputs.lists ≡ replicate count []) }
-{
-    let mut inputs = Streams::new(alloc);
-    for _k in 0..count {
-        inputs.add_stream(0)?;
-    }
-    Ok(inputs)
 }
 
 // Whether these values are as declared; line `number` gave them.
@@ -179,18 +161,6 @@ fn has_type(basic: Basic, value: Value) -> bool
     }
 }
 
-// Adds these values to stream `k`.
-fn add_values(inputs: &mut Streams, k: u32, values: &[Value]) -> Result<(), Memory>
-    requires { k < length inputs.old.lists }
-    ensures { OnOk result (inputs.new.lists
-        ≡ slice_set inputs.old.lists k (list_at inputs.old k ++ values.now)) }
-{
-    for value in values {
-        inputs.add_value(k, *value)?;
-    }
-    Ok(())
-}
-
 /// The inputs of a text, in the order of `decls`.
 ///
 /// Each line is `name = values`, where blanks part the values and may stand around the name; the
@@ -222,6 +192,6 @@ pub fn read_inputs(
     }
     match reader.first_missing(decls) {
         Some(name) => Err(InputAnswer::MissingInput(name)),
-        None => Ok(reader.inputs),
+        None => Ok(reader.inputs.into_streams(alloc)?),
     }
 }

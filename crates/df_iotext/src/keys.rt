@@ -11,7 +11,7 @@ use std::marker::Model;
 /// with the logarithm of their number, whatever names they are.
 #[derive(Drop)]
 pub struct Places<'a> {
-    numbers: BTreeMap<&'a [u8], u32>,
+    numbers: BTreeMap<&'a [u8], usize>,
 }
 
 impl<'a> Model for Places<'a> {
@@ -34,7 +34,7 @@ impl<'a> Places<'a> {
     }
 
     /// Puts a number under a name, in the place of the one that was there. A refused call changes nothing.
-    pub fn put(&mut self, name: &'a [u8], number: u32) -> Result<(), Memory>
+    pub fn put(&mut self, name: &'a [u8], number: usize) -> Result<(), Memory>
         ensures { OnOk result ((other : List ℕ)
             → place_of_name self.new other ≡ cond (bytes_eq name.now other) (Some number) (place_of_name self.old other)) }
     {
@@ -43,7 +43,7 @@ impl<'a> Places<'a> {
     }
 
     /// Takes the number under a name away. None where there is none.
-    pub fn take(&mut self, name: &[u8]) -> Option<u32>
+    pub fn take(&mut self, name: &[u8]) -> Option<usize>
         ensures value { result ≡ place_of_name self.old name.now }
         ensures others { (other : List ℕ)
             → place_of_name self.new other ≡ cond (bytes_eq name.now other) None (place_of_name self.old other) }

@@ -6,6 +6,7 @@ pub mod inputs;
 mod keys;
 pub mod laws;
 pub mod lines;
+mod lists;
 pub mod numbers;
 pub mod printing;
 pub mod schedules;

@@ -11,7 +11,9 @@ pub mod Scans
 pub mod Room
 pub mod Outputs
 pub mod Enabled
-pub mod Fed
+pub mod Wanted
+pub mod Told
+pub mod ToldRuns
 pub mod Steps
 pub mod Drained
 pub mod ThreeCellsRun

@@ -203,26 +203,18 @@ module _ (numbers : Numbers) (of_source of_blocks : Calls) (same_calls : (name :
           gives = λ later. ap (λ l. l ∷ []) (last_result b later);
         }
 
-    -- a result that is a parameter or a definition by its name
+    -- a result that is an array by its name
     named_result : (o : Outcome) (b : Bound) → ((later : List Bound) → result_of inputs (after.made ++ later) o ≡ values_of b) → Given list (o ∷ []) (b ∷ [])
     named_result o b results = record { final = after; more = []; grown = sym (append-nil after.made); gives = λ later. ap (λ l. l ∷ []) (results later) }
 
     pub result_after : (sort : Sort) (e : Expr) → is_fresh e taken ≡ true → BoundsKnown numbers (form e) → (s : Option Standing) → name_standing numbers names (form e) ≡ s
         → Given (result_by numbers so_far sort e s).1 ((result_by numbers so_far sort e s).0 ∷ []) (bound_of (with_calls of_source source) sort e ∷ [])
-    result_after (of.Basic basic) e fresh known (Some (standing.Scalar o)) is =
-        let named = standing_name numbers names (form e) (standing.Scalar o) is in
-        let k = subst (Known numbers of_blocks inputs start source after.blocks after.made named.0) named.2 (after.are.known named.0) in
-        let value : scalar_bound (with_calls of_source source) e (form e) ≡ k.value =
-        ap (scalar_bound (with_calls of_source source) e) named.1 ∙ (name_value e named.0 (with_calls of_source source) named.1 ∙ ap scalar k.in_source) in
-        named_result o (bound_of (with_calls of_source source) (of.Basic basic) e) (λ later. k.results later ∙ sym (ap (λ v. cut (v ∷ [])) value))
     result_after (of.Array basic) e fresh known (Some (standing.Array o other)) is =
         let named = standing_name numbers names (form e) (standing.Array o other) is in
         let k = subst (Known numbers of_blocks inputs start source after.blocks after.made named.0) named.2 (after.are.known named.0) in
         let same : bound_of (with_calls of_source source) (of.Array basic) e ≡ k.array = ap (array_bound (with_calls of_source source) e) named.1 ∙ ap name_bound k.in_source in
         named_result o (bound_of (with_calls of_source source) (of.Array basic) e) (λ later. k.results later ∙ sym (ap values_of same))
-    result_after (of.Basic basic) e fresh known None is = own_block (of.Basic basic) e fresh known (λ b q o other at. basic_apart basic b q)
-    result_after (of.Basic basic) e fresh known (Some (standing.Constant k)) is = own_block (of.Basic basic) e fresh known (λ b q o other at. basic_apart basic b q)
-    result_after (of.Basic basic) e fresh known (Some (standing.Array o other)) is = own_block (of.Basic basic) e fresh known (λ b q p other at. basic_apart basic b q)
     result_after (of.Array basic) e fresh known None is = own_block (of.Array basic) e fresh known (λ b q o other at. none_apart o other (sym is ∙ at))
     result_after (of.Array basic) e fresh known (Some (standing.Constant k)) is = own_block (of.Array basic) e fresh known (λ b q o other at. constant_apart k o other (sym is ∙ at))
     result_after (of.Array basic) e fresh known (Some (standing.Scalar k)) is = own_block (of.Array basic) e fresh known (λ b q o other at. scalar_apart k o other (sym is ∙ at))
+    result_after (of.Basic basic) e fresh known s is = own_block (of.Basic basic) e fresh known (λ b q o other at. basic_apart basic b q)

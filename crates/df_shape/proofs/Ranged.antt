@@ -187,7 +187,6 @@ define_short numbers made named sort e s k h = one_more made.blocks _ h k
 result_short : (numbers : Numbers) (made : Made) (sort : Sort) (e : Expr) (s : Option Standing) → IsShort (shape.body_of numbers made.names sort e)
     → AreShort made.blocks
     → AreShort (result_by numbers made sort e s).1
-result_short numbers made (of.Basic b) e (Some (standing.Scalar o)) k h = h
 result_short numbers made (of.Array b) e (Some (standing.Array o name)) k h = h
 result_short numbers made sort e s k h = one_more made.blocks _ h k
 

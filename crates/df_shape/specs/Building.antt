@@ -38,8 +38,7 @@ abbrev pub alias_of : Sort → Option Standing → Option Standing
 alias_of (of.Array b) (Some (standing.Array o name)) = Some (standing.Array o name)
 alias_of sort s = None
 
--- what a result that is a plain name is
+-- what a result that is a plain array name is
 abbrev pub outcome_of : Sort → Option Standing → Option Outcome
-outcome_of (of.Basic b) (Some (standing.Scalar o)) = Some o
 outcome_of (of.Array b) (Some (standing.Array o name)) = Some o
 outcome_of sort s = None

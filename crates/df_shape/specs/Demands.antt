@@ -1,5 +1,5 @@
 -- What is demanded of the form of each expression, an outer node before an inner one: a fold over trees.
-use Rattle.std.specs.Prelude.{ℕ, zero, suc, ℤ, pos, negsuc, ◌-ℤ◌, Bool, true, false, not, ◌&&◌, ◌||◌, nat_le, if◌then◌else◌, List, [], ◌∷◌, ◌++◌, flat_map, fold, Option, Some, None, bytes_eq}
+use Rattle.std.specs.Prelude.{ℕ, suc, ℤ, pos, Bool, true, false, not, ◌&&◌, ◌||◌, nat_le, if◌then◌else◌, List, [], ◌∷◌, ◌++◌, flat_map, fold, Option, Some, None, bytes_eq}
 use Rattle.std.specs.Option.{is_some}
 use Rattle.df_io.specs.declared.place.Place.{Place}
 use Rattle.df_values.specs.declared.kinds.Op.{Op}
@@ -16,6 +16,7 @@ use Rattle.df_syntax.specs.Meaning.{Name, exact}
 use Rattle.df_syntax.specs.WellShaped.{has_first}
 use Rattle.df_syntax.specs.SourceForms.{Numbers, form, is_name, is_array, manifest, Recurrence, recurrence_of}
 use Rattle.df_syntax.specs.SourceMeaning.{over}
+pub use Rattle.df_ranges.specs.Offsets.{is_before, is_offset, is_one_before}
 use Rattle.df_shape.specs.declared.part.Part.{Part}
 use Rattle.df_shape.specs.declared.part.Part.TheVariants.{Whole, Inside, Element, Defined, First, Next}
 use Rattle.df_shape.specs.declared.answers.ShapeAnswer.{ShapeAnswer}
@@ -91,15 +92,6 @@ offset numbers index (Node-F.Name name) = if bytes_eq name index then Some (pos 
 offset numbers index (Node-F.Chain first rest) = if is_name index first then fold (offset_link numbers) (Some (pos 0)) rest else None
 offset numbers index node = None
 
-abbrev pub is_before : Option ℤ → Bool
-is_before (Some (negsuc zero)) = true
-is_before k = false
-
--- a recurrence takes its own array at the index before
-abbrev pub is_offset : Option Name → Name → Option ℤ → Bool
-is_offset None name k = is_some k
-is_offset (Some own) name k = if bytes_eq own name then is_before k else is_some k
-
 abbrev pub is_subscript : Numbers → Part → Name → Expr → Bool
 is_subscript numbers (Element index own) name at = is_offset own name (offset numbers index (form at))
 is_subscript numbers part name at = is_some (manifest numbers at)
@@ -153,10 +145,6 @@ length_between numbers low high = over (manifest numbers low) (manifest numbers 
 
 abbrev pub longest : ℕ
 longest = 4096
-
-abbrev pub is_one_before : Option ℤ → Option ℤ → Bool
-is_one_before (Some m) (Some lo) = is_before (Some (m -ℤ lo))
-is_one_before m lo = false
 
 -- the bounds of a recurrence; its first element counts
 abbrev pub recurrence_demands : Numbers → Place → Option Recurrence → Demands

@@ -12,6 +12,5 @@ pub mod Shaped
 pub mod Building
 pub mod Sources
 pub mod Bodies
-pub mod Sizes
 pub mod Walked
 pub mod Walks

@@ -92,9 +92,8 @@ module _ (numbers : Numbers) where
   abbrev pub define : Made → Named → Sort → Expr → Made
   define made named sort e = define_by made named sort e (name_standing made.names (form e))
 
-  -- a result that is the name of a parameter or a definition is that, and no block
+  -- a result that is a plain array name is that array, and no block
   abbrev pub result_by : Made → Sort → Expr → Option Standing → Outcome × List Block
-  result_by made (of.Basic b) e (Some (standing.Scalar o)) = (o, made.blocks)
   result_by made (of.Array b) e (Some (standing.Array o name)) = (o, made.blocks)
   result_by made sort e s = (outcome.Block (length made.blocks), made.blocks ++ record { name = None; body = body_of made.names sort e } ∷ [])
 

@@ -52,12 +52,11 @@ fn alias_of(sort: Sort, standing: &Option<Standing>) -> Option<Standing>
     }
 }
 
-/// What a result that is a plain name is.
+/// What a result that is a plain array name is.
 fn outcome_of(sort: Sort, standing: &Option<Standing>) -> Option<Outcome>
     ensures { result ≡ outcome_of sort standing.now }
 {
     match (sort, standing) {
-        (Sort::Basic(_), Some(Standing::Scalar(outcome))) => Some(*outcome),
         (Sort::Array(_), Some(Standing::Array { outcome, .. })) => Some(*outcome),
         _ => None,
     }

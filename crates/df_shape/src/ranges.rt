@@ -1,9 +1,8 @@
 //! Ranges that are known before any input.
 ghost use Rattle.std.specs.Prelude.{◌≡◌, IfOk, Some};
-ghost use Rattle.df_syntax.specs.SourceForms.{manifest, elements, recurrence_of, form};
-ghost use Rattle.df_syntax.specs.WellShaped.{has_first};
+ghost use Rattle.df_syntax.specs.SourceForms.{manifest, recurrence_of, form};
 ghost use Rattle.df_names.specs.Found.{names_of};
-ghost use Rattle.df_shape.specs.Demands.{demand, manifest_demand, range_demands, length_between, is_one_before, recurrence_demands};
+ghost use Rattle.df_shape.specs.Demands.{demand, manifest_demand, range_demands, length_between, recurrence_demands};
 ghost use Rattle.df_shape.specs.Walked.{Walked};
 
 use crate::answers::ShapeAnswer;
@@ -11,9 +10,9 @@ use crate::forms::as_recurrence;
 use crate::manifest::manifest;
 use df_io::Place;
 use df_names::NameMap;
+use df_ranges::lengths::{is_one_before, length};
 use df_syntax::form::Form;
 use df_syntax::tree::Expr;
-use df_values::kinds::Op;
 use df_values::values::Integer;
 
 /// The greatest number of elements of a range.
@@ -40,17 +39,6 @@ pub(crate) fn ask_manifest(numbers: &NameMap<Integer>, expr: &Expr) -> Result<In
     }
 }
 
-/// How many indices there are from the lowest to the highest.
-pub(crate) fn length(low: Integer, high: Integer) -> u64
-    ensures { result ≡ elements low high }
-{
-    let length = i64::from(high) - i64::from(low) + 1;
-    if length < 0 {
-        return 0;
-    }
-    length as u64
-}
-
 /// The length of the range of a construct or a fold at this place. Its bounds are to be known before any input, and it is to
 /// have at most 4,096 elements.
 pub(crate) fn ask_range(
@@ -67,24 +55,6 @@ pub(crate) fn ask_range(
     let length = length(from, to);
     ask(length <= LONGEST, ShapeAnswer::RangeTooLong(place))?;
     Ok(length)
-}
-
-/// Whether a fold by this operator over so many elements has a first one to begin with, where it begins with one.
-pub(crate) fn has_first(op: Op, length: u64) -> bool
-    ensures { result ≡ has_first op length }
-{
-    match op {
-        Op::Min => length != 0,
-        Op::Max => length != 0,
-        _ => true,
-    }
-}
-
-/// Whether an index is one less than another.
-fn is_one_before(before: Integer, low: Integer) -> bool
-    ensures { result ≡ is_one_before (Some before) (Some low) }
-{
-    i64::from(before) - i64::from(low) == -1
 }
 
 /// A loop is to be a recurrence over bounds that are known before any input. It is to begin one index before the lowest,

@@ -1,22 +1,17 @@
 //! Subscripts that have the form.
-ghost use Rattle.std.specs.Prelude.{◌≡◌, ℕ, ◌+◌, ◌^◌, fold, pos, Some};
-ghost use Rattle.df_syntax.specs.Meaning.{exact};
+ghost use Rattle.std.specs.Prelude.{◌≡◌, fold, pos, Some};
 ghost use Rattle.df_syntax.specs.SourceForms.{form};
 ghost use Rattle.df_names.specs.Found.{names_of};
-ghost use Rattle.df_shape.specs.Demands.{offset_link, offset, is_before, is_offset, is_subscript};
-ghost use Rattle.df_shape.specs.Sizes.{Within};
+ghost use Rattle.df_shape.specs.Demands.{offset_link, offset, is_subscript};
 
 use crate::forms::{bare, is_name};
 use crate::manifest::manifest;
 use crate::part::Part;
 use df_names::NameMap;
+use df_ranges::offsets::{Whole, is_offset, shifted};
 use df_syntax::tree::{Expr, Link, Node};
-use df_values::kinds::Op;
 use df_values::name::Name;
 use df_values::values::Integer;
-
-/// Wide enough for any offset.
-type Whole = i128;
 
 /// Whether a subscript of this array has the form in such a part: it is known before any input, or in a block it is the
 /// index of the block and a known number, which in a recurrence is -1 for its own array.
@@ -56,43 +51,4 @@ fn shift(numbers: &NameMap<Integer>, rest: &[Link]) -> Option<Whole>
         sum = shifted(link.op, sum, manifest(numbers, &link.operand));
     }
     sum
-}
-
-/// A sum with one operand more.
-fn shifted(op: Op, sum: Option<Whole>, operand: Option<Integer>) -> Option<Whole>
-    requires { Within (2 ^ 110) sum }
-    ensures value { result ≡ exact op sum operand }
-    ensures small { (n : ℕ) → Within n sum → Within (n + 2 ^ 32) result }
-{
-    match (op, sum, operand) {
-        (Op::Add, Some(a), Some(b)) => Some(a + Whole::from(b)),
-        (Op::Sub, Some(a), Some(b)) => Some(a - Whole::from(b)),
-        _ => None,
-    }
-}
-
-/// Whether an array is taken at such an offset: its own array a recurrence takes at the index before.
-fn is_offset(own: &Option<Name>, name: &Name, offset: Option<Whole>) -> bool
-    ensures { result ≡ is_offset own.now name.now offset }
-{
-    match own {
-        Some(array) => {
-            if array == name {
-                is_before(offset)
-            } else {
-                offset.is_some()
-            }
-        }
-        None => offset.is_some(),
-    }
-}
-
-/// Whether an offset is -1.
-fn is_before(offset: Option<Whole>) -> bool
-    ensures { result ≡ is_before offset }
-{
-    match offset {
-        Some(k) => k == -1,
-        None => false,
-    }
 }

@@ -2,4 +2,4 @@ use Rattle.df_celltext.proofs.TextLemmas.{one_list}
 use Rattle.df_celltext.proofs.laws.text_tells_the_cells.Goals as goal
 
 pub returns : goal.returns
-returns c text a b g h = one_list text a b g h
+returns c version text a b g h = one_list version text a b g h

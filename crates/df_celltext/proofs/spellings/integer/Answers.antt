@@ -1,5 +1,5 @@
 -- The integer at the front, where nothing stands behind it.
-use Rattle.std.proofs.Common.{Some, SFits, w32, rules, sym, ap, ◌∙◌, arith}
+use Rattle.std.proofs.Common.{Some, SFits, w64, rules, sym, ap, ◌∙◌, arith}
 use Rattle.std.proofs.lemmas.Int.{to_z-of_z}
 use Rattle.df_celltext.proofs.NumberLemmas.{integer_read, integer_missing, integer_too_long}
 use Rattle.df_celltext.proofs.spellings.integer.Goals as goal
@@ -12,6 +12,6 @@ returns-then-length-word c = sym (integer_too_long c.args.word.now c.in-Some.int
 
 pub returns : goal.returns
 returns c =
-    let fits : SFits w32 c.in-Some.integer = search rules in
-    ap Some (to_z-of_z w32 c.in-Some.integer fits)
+    let fits : SFits w64 c.in-Some.integer = search rules in
+    ap Some (to_z-of_z w64 c.in-Some.integer fits)
     ∙ sym (integer_read c.args.word.now c.in-Some.integer c.in-Some.length c.in-Some.ensures.integer (omega arith) c.in-Some.ensures.ordinary)

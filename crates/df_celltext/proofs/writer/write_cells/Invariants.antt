@@ -4,4 +4,4 @@ use Rattle.df_celltext.specs.CellText.{cell_lines}
 use Rattle.df_celltext.proofs.writer.write_cells.Given as goal
 
 abbrev pub invariant-loop-number : goal.invariant-loop-number
-invariant-loop-number l = l.text ≡ codes "dataflow 1 " ++ decimal (length l.cells) ++ codes "\n" ++ cell_lines 0 (take l.number l.cells)
+invariant-loop-number l = l.text ≡ codes "dataflow 2 " ++ decimal (length l.cells) ++ codes "\n" ++ cell_lines 0 (take l.number l.cells)

@@ -4,7 +4,7 @@ use Rattle.df_syntax.specs.declared.token.Token.{Token}
 use Rattle.df_syntax.specs.Grammar as g
 use Rattle.df_syntax.specs.Reading.{reads}
 use Rattle.df_syntax.proofs.SourceBounds.{well_built}
-use Rattle.df_grammar.specs.Reads.{fault}
+use Rattle.df_cursor.specs.Reads.{fault}
 use Rattle.df_grammar.specs.Answers.{IsAnswered}
 use Rattle.df_grammar.proofs.Answered.{found, found_more, failed, exact, nothing_left, something_left}
 use Rattle.df_grammar.proofs.parser.parse.Goals as goal

@@ -7,4 +7,4 @@ pub loop-k-preserved : goal.loop-k-preserved
 loop-k-preserved c =
     let below = c.loop-k-test.true in
     let at = slice_get_read c.args.decls.now (length c.args.decls.now) c.loop-k.k c.index-decls-k.result refl below c.index-decls-k.is in
-    one_place_more c.args.decls.now c.loop-k.open c.put.new.self c.loop-k.k c.index-decls-k.result c.requires.names at c.loop-k.invariant (rw c.bytes.ensures.list at c.in_ok-put.ensures)
+    one_place_more c.args.decls.now c.loop-k.open c.put.new.self c.loop-k.k c.index-decls-k.result c.requires at c.loop-k.invariant (rw c.bytes.ensures.list at c.in_ok-put.ensures)

@@ -1,7 +1,7 @@
 use Rattle.std.proofs.Common.{◌≡◌, take, fold, pos, Some, ◌^◌, ◌*◌, ◌+◌}
 use Rattle.df_names.specs.Found.{names_of}
 use Rattle.df_shape.specs.Demands.{offset_link}
-use Rattle.df_shape.specs.Sizes.{Within}
+use Rattle.df_ranges.specs.Sizes.{Within}
 use Rattle.df_shape.proofs.subscripts.shift.Given as goal
 
 abbrev pub invariant-loop-link : goal.invariant-loop-link

@@ -2,8 +2,8 @@ use Rattle.std.proofs.Common.{sym, subst, ◌-◌, arith}
 use Rattle.df_forms.specs.Reading.{Outcome}
 use Rattle.df_syntax.specs.declared.token.Token.{Token}
 use Rattle.df_syntax.specs.declared.tree.Expr.{Expr}
-use Rattle.df_grammar.specs.Reads.{Reads}
-use Rattle.df_grammar.proofs.Opening.{deeper_is}
+use Rattle.df_cursor.specs.Reads.{Reads}
+use Rattle.df_grammar.proofs.Deeper.{deeper_is}
 use Rattle.df_grammar.proofs.descent.Descent.again.Goals as goal
 
 pub returns : goal.returns

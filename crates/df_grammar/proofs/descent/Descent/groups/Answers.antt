@@ -1,6 +1,6 @@
 use Rattle.std.proofs.Common.{rules, ◌≡◌, ◌≢◌, ◌∙◌, sym, arith, [], ◌∷◌}
 use Rattle.std.proofs.lemmas.Grind.{common_steps}
-use Rattle.df_grammar.specs.declared.error.ParseError.TheVariants.{Memory}
+use Rattle.df_cursor.specs.declared.error.ParseError.TheVariants.{Memory}
 use Rattle.df_grammar.specs.Parts as p
 use Rattle.df_grammar.proofs.Chains.{all, line_shrinks, groups_starts, solid_next_group, turn, failed, done}
 use Rattle.df_grammar.proofs.descent.Descent.groups.Goals as goal

@@ -1,6 +1,6 @@
 use Rattle.std.proofs.Common.{rules, ◌≢◌, ◌∙◌, sym, arith}
 use Rattle.std.proofs.lemmas.Grind.{common_steps}
-use Rattle.df_grammar.specs.declared.error.ParseError.TheVariants.{Memory}
+use Rattle.df_cursor.specs.declared.error.ParseError.TheVariants.{Memory}
 use Rattle.df_syntax.specs.Grammar as g
 use Rattle.df_grammar.proofs.Chains.{all, line_shrinks, ranges_starts, solid_range, turn, failed, done}
 use Rattle.df_grammar.proofs.descent.Descent.ranges.Goals as goal

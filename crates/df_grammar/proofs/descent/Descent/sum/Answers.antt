@@ -1,10 +1,10 @@
 use Rattle.std.proofs.Common.{rules, ◌≢◌, ◌∙◌, ap, sym, arith}
 use Rattle.std.proofs.lemmas.Grind.{common_steps}
-use Rattle.df_grammar.specs.declared.error.ParseError.TheVariants.{Memory}
+use Rattle.df_cursor.specs.declared.error.ParseError.TheVariants.{Memory}
 use Rattle.df_syntax.specs.Lines as l
 use Rattle.df_forms.specs.Reading.{sees}
 use Rattle.df_syntax.specs.TokenClasses.{class}
-use Rattle.df_grammar.proofs.Firsts.{first_term_link}
+use Rattle.df_cursor.proofs.Firsts.{first_term_link}
 use Rattle.df_grammar.proofs.Chains.{joined, line_shrinks, sum_starts, solid_term_link, turn, failed, done}
 use Rattle.df_grammar.proofs.descent.Descent.sum.Goals as goal
 

@@ -1,6 +1,6 @@
 use Rattle.std.proofs.Common.{rules, ◌≢◌, ◌∙◌, sym, arith}
 use Rattle.std.proofs.lemmas.Grind.{common_steps}
-use Rattle.df_grammar.specs.declared.error.ParseError.TheVariants.{Memory}
+use Rattle.df_cursor.specs.declared.error.ParseError.TheVariants.{Memory}
 use Rattle.df_syntax.specs.Lines as l
 use Rattle.df_grammar.proofs.Chains.{joined, line_shrinks, whole_starts, solid_conjunction_link, turn, failed, done}
 use Rattle.df_grammar.proofs.descent.Descent.whole.Goals as goal

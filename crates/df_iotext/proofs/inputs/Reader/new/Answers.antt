@@ -3,4 +3,4 @@ use Rattle.df_iotext.proofs.inputs.Reader.new.Goals as goal
 
 pub returns : goal.returns
 returns c =
-    has_given_nothing c.args.decls.now c.in_ok-all_places.field-0 c.in_ok-empty_streams.field-0.lists c.in_ok-all_places.ensures c.in_ok-empty_streams.ensures
+    has_given_nothing c.args.decls.now c.in_ok-all_places.field-0 c.in_ok-empty.field-0 c.in_ok-all_places.ensures c.in_ok-empty.ensures

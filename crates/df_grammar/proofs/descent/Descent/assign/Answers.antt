@@ -1,0 +1,26 @@
+use Rattle.std.proofs.Common.{refl, arith}
+use Rattle.df_forms.specs.Reading.{read}
+use Rattle.df_syntax.specs.Grammar as g
+use Rattle.df_cursor.specs.Reads.{opened}
+use Rattle.df_grammar.proofs.Levels.{level_bound_2}
+use Rattle.df_grammar.proofs.Steps.{step_failed}
+use Rattle.df_grammar.proofs.descent.Descent.assign.Goals as goal
+
+pub returns-in_err-name : goal.returns-in_err-name
+unfolding g.assign read opened
+returns-in_err-name g' c = step_failed _ _ _ _ c.in_err-name.field-0.0 c.from_residual.ensures.1 (λ n. rw (c.in_err-name.ensures.twice n) refl)
+
+pub returns-in_err-take_symbol : goal.returns-in_err-take_symbol
+unfolding g.assign read opened
+returns-in_err-take_symbol g' c = step_failed _ _ _ _ c.in_err-take_symbol.field-0.0 c.from_residual-in_err-take_symbol.ensures.1 (λ n. rw (c.in_ok-name.ensures.twice.0, c.in_err-take_symbol.ensures n) refl)
+
+pub returns-in_err-value : goal.returns-in_err-value
+unfolding g.assign read opened
+returns-in_err-value g' c = step_failed _ _ _ _ c.in_err-value.field-0.0 c.from_residual-in_err-value.ensures.1 (λ n. rw (c.in_ok-name.ensures.twice.0, c.in_ok-take_symbol.ensures.0, level_bound_2, c.in_err-value.ensures n) refl)
+
+pub returns : goal.returns
+unfolding g.assign read opened
+returns g' c = (
+  rw (c.in_ok-name.ensures.twice.0, c.in_ok-take_symbol.ensures.0, level_bound_2, c.in_ok-value.ensures.0) refl,
+  omega (arith, c.in_ok-name.ensures.twice.1, c.in_ok-take_symbol.ensures.1, c.in_ok-value.ensures.1),
+)

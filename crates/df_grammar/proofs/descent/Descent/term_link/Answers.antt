@@ -1,0 +1,22 @@
+use Rattle.std.proofs.Common.{refl, arith}
+use Rattle.df_forms.specs.Reading.{read}
+use Rattle.df_syntax.specs.Lines as l
+use Rattle.df_cursor.specs.Reads.{opened}
+use Rattle.df_grammar.proofs.Levels.{level_term_op_0}
+use Rattle.df_grammar.proofs.Steps.{step_failed}
+use Rattle.df_grammar.proofs.descent.Descent.term_link.Goals as goal
+
+pub returns-in_err-op : goal.returns-in_err-op
+unfolding l.term_link read opened
+returns-in_err-op g' c = step_failed _ _ _ _ c.in_err-op.field-0.0 c.from_residual.ensures.1 (λ n. rw (c.in_err-op.ensures n) refl)
+
+pub returns-in_err-operand : goal.returns-in_err-operand
+unfolding l.term_link read opened
+returns-in_err-operand g' c = step_failed _ _ _ _ c.in_err-operand.field-0.0 c.from_residual-in_err-operand.ensures.1 (λ n. rw (c.in_ok-op.ensures.0, level_term_op_0, c.in_err-operand.ensures n) refl)
+
+pub returns : goal.returns
+unfolding l.term_link read opened
+returns g' c = (
+  rw (c.in_ok-op.ensures.0, level_term_op_0, c.in_ok-operand.ensures.0) refl,
+  omega (arith, c.in_ok-op.ensures.1, c.in_ok-operand.ensures.1),
+)

@@ -1,0 +1,21 @@
+use Rattle.std.proofs.Common.{refl, sym, ◌∙◌}
+use Rattle.df_forms.specs.Reading.{read}
+use Rattle.df_syntax.specs.Grammar as g
+use Rattle.df_grammar.proofs.Steps.{step_failed}
+use Rattle.df_grammar.proofs.descent.Descent.term_op.Goals as goal
+
+pub returns-in_err-take_symbol : goal.returns-in_err-take_symbol
+unfolding g.term_op read
+returns-in_err-take_symbol g' c = step_failed _ _ _ _ c.in_err-take_symbol.field-0.0 c.from_residual.ensures.1 (λ n. rw (sym c.sees_symbol.ensures ∙ c.if-sees_symbol.true, c.in_err-take_symbol.ensures n) refl)
+
+pub returns-in_ok-take_symbol : goal.returns-in_ok-take_symbol
+unfolding g.term_op read
+returns-in_ok-take_symbol g' c = (rw (sym c.sees_symbol.ensures ∙ c.if-sees_symbol.true, c.in_ok-take_symbol.ensures.0) refl, c.in_ok-take_symbol.ensures.1)
+
+pub returns-in_err-take_symbol-2 : goal.returns-in_err-take_symbol-2
+unfolding g.term_op read
+returns-in_err-take_symbol-2 g' c = step_failed _ _ _ _ c.in_err-take_symbol-2.field-0.0 c.from_residual-in_err-take_symbol-2.ensures.1 (λ n. rw (sym c.sees_symbol.ensures ∙ c.if-sees_symbol.false, c.in_err-take_symbol-2.ensures n) refl)
+
+pub returns-in_ok-take_symbol-2 : goal.returns-in_ok-take_symbol-2
+unfolding g.term_op read
+returns-in_ok-take_symbol-2 g' c = (rw (sym c.sees_symbol.ensures ∙ c.if-sees_symbol.false, c.in_ok-take_symbol-2.ensures.0) refl, c.in_ok-take_symbol-2.ensures.1)
