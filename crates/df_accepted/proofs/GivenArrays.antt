@@ -234,8 +234,6 @@ module _ (all : List Function) (numbers : Numbers) (arrays callable gives : Name
   step e (Node-F.Test t of_) is scope part others apart called known h d b at = let bad = sort_at e (Node-F.Test t of_.0) is scope b at in absurd (cc)
   step e (Node-F.TwoPlace o left right) is scope part others apart called known h d b at = let bad = sort_at e (Node-F.TwoPlace o left.0 right.0) is scope b at in absurd (cc)
   step e (Node-F.Fold index low high o elem) is scope part others apart called known h d b at = absurd (operator_basic o b (sort_at e (Node-F.Fold index low.0 high.0 o elem.0) is scope b at))
-  step e (Node-F.Replaced parameters arguments body) is scope part others apart called known h d b at =
-      let bad = sort_at e (Node-F.Replaced parameters (map (λ a. a.0) arguments) body.0) is scope b at in absurd (cc)
 
   pub given : (e : Expr) → Given e
   given = tree_induction Given step

@@ -1,9 +1,5 @@
 pub mod TypesKept
-pub mod Names
 pub mod Forms
-pub mod Expressions
-pub mod Functions
-pub mod Programs
 pub mod Agreed
 pub mod Told
 pub mod TypedForms

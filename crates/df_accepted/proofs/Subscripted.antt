@@ -18,7 +18,7 @@ use Rattle.df_syntax.specs.SourceForms.{Numbers, bare, form, is_form_name, is_na
 use Rattle.df_syntax.specs.Trees.{Opened}
 use Rattle.df_syntax.specs.WellBuilt.{is_bounded, has_one_level, all_true}
 use Rattle.df_syntax.specs.WellShaped as shaped
-use Rattle.df_syntax.specs.WellShaped.{Subscripts, Known, Offset, Previous, Around, may_follow, is_accepted, chain_offset}
+use Rattle.df_syntax.specs.WellShaped.{Subscripts, Known, Offset, Previous, Around, may_follow, is_accepted, own_offset, chain_offset}
 use Rattle.df_syntax.proofs.FirstRefusals.{begin_holds, rest_holds}
 use Rattle.df_types.specs.Scopes as scopes
 use Rattle.df_types.specs.Sorts.{chain_sort}
@@ -87,7 +87,6 @@ name_form index (Node-F.Fold i low high o elem) h = absurd (cc)
 name_form index (Node-F.For ds asked assigns last) h = absurd (cc)
 name_form index (Node-F.Array at value) h = absurd (cc)
 name_form index (Node-F.Update name at value) h = absurd (cc)
-name_form index (Node-F.Replaced parameters arguments body) h = absurd (cc)
 
 -- an expression that is a name, by the node without its parentheses
 pub name_node : (index : Name) (e : Expr) → is_name index e ≡ true → (bare e).node ≡ roll-Node (Node-F.Name index)
@@ -183,9 +182,9 @@ module _ (numbers : Numbers) (names : Names) (stand : NumbersStand numbers names
           absurd (cc)
 
   -- an expression that is a name which stands for itself is that name
-  name_offset : (index : Name) (e : Expr) → names index ≡ None → e.node ≡ roll-Node (Node-F.Name index) → (told names e).offset index ≡ (if bytes_eq index index then Some (pos 0) else None)
-  name_offset index e none is =
-      ap (λ (k : shaped.Look). k.offset index) (told_at names e (Node-F.Name index) is) ∙ ap (λ (s : Option Standing). (value_look index s).offset index) none
+  name_itself : (index : Name) (e : Expr) → names index ≡ None → e.node ≡ roll-Node (Node-F.Name index) → (told names e).is_name index ≡ bytes_eq index index
+  name_itself index e none is =
+      ap (λ (k : shaped.Look). k.is_name index) (told_at names e (Node-F.Name index) is) ∙ ap (λ (s : Option Standing). (value_look index s).is_name index) none
 
   -- the offset of a subscript is kept
   offset_told : (index : Name) (e : Expr) (x : Opened) → names index ≡ None → e.node ≡ roll-Node x → is_some (offset numbers index x) ≡ true
@@ -201,10 +200,10 @@ module _ (numbers : Numbers) (names : Names) (stand : NumbersStand numbers names
       let parts = some_guarded (is_name index first) (fold (offset_link numbers) (Some (pos 0)) rest) h in
       let sum = some_is (fold (offset_link numbers) (Some (pos 0)) rest) parts.1 in
       let links = links_offset rest (Some (pos 0)) parts.1 in
-      let start : (told names first).offset index ≡ Some (pos 0) =
-      ap (λ (k : shaped.Look). k.offset index) (told_bare names first) ∙ (name_offset index (bare first) none (name_node index first parts.0) ∙ ap (λ b. if b then Some (pos 0) else None) (is_itself index)) in
+      let start : own_offset ((told names first).is_name index) ≡ Some (pos 0) =
+      ap own_offset (ap (λ (k : shaped.Look). k.is_name index) (told_bare names first) ∙ (name_itself index (bare first) none (name_node index first parts.0) ∙ is_itself index)) in
       ap (λ (k : shaped.Look). k.offset index) (told_at names e (Node-F.Chain first rest) is)
-      ∙ (guarded (list_all (λ (link : Op × shaped.Look). is_additive link.0) (told_links rest)) (chain_offset ((told names first).offset index) (told_links rest)) sum.0 links.0
+      ∙ (guarded (list_all (λ (link : Op × shaped.Look). is_additive link.0) (told_links rest)) (chain_offset (own_offset ((told names first).is_name index)) (told_links rest)) sum.0 links.0
       (ap (λ (o : Option ℤ). chain_offset o (told_links rest)) start ∙ (links.1 ∙ sum.1))
       ∙ sym (guarded (is_name index first) (fold (offset_link numbers) (Some (pos 0)) rest) sum.0 parts.0 sum.1))
   offset_told index e x none is h = absurd (cc)

@@ -16,7 +16,7 @@ use Rattle.df_syntax.specs.declared.tree.Node.TheOpen.{Node-F}
 use Rattle.df_syntax.specs.Trees.{Layer, Opened, layer_of, map_same}
 use Rattle.df_syntax.specs.Meaning.{Name}
 use Rattle.df_syntax.specs.WellBuilt.{is_bounded, has_its_type, has_one_level, all_true, is_some_list, is_two_place, is_fold}
-use Rattle.df_syntax.specs.WellShaped.{Look, node_look}
+use Rattle.df_syntax.specs.WellShaped.{Look, node_look, look_of}
 use Rattle.df_syntax.proofs.Folds as folds
 use Rattle.df_syntax.proofs.Folds.{node_bounds, link_bounds, arm_bounds, assign_bounds, definition_bounds}
 use Rattle.df_syntax.proofs.MadeNodes.{fold_made, layer_behind}
@@ -24,7 +24,6 @@ use Rattle.df_shape.specs.declared.standing.Standing.{Standing}
 use Rattle.df_shape.specs.declared.standing.Standing.TheVariants as standing
 use Rattle.df_shape.specs.Renamed.{Names, value_renamed, array_name, renamed}
 use Rattle.df_shape.proofs.RenamedForms.{renamed_node}
-use Rattle.df_accepted.proofs.Expressions.{look}
 
 -- ---- in blocks
 
@@ -41,23 +40,23 @@ node_told names node = node_look node
 
 -- what an expression tells in blocks
 unfoldable pub told : Names → Expr → Look
-told names e = look (renamed names e)
+told names e = look_of (renamed names e)
 
 name_told : (names : Names) (e : Expr) (name : Name) (s : Option Standing) → (renamed names e).node ≡ value_renamed name s → told names e ≡ value_look name s
-unfolding told
+unfolding told look_of
 name_told names e name None at = fold_made Look (λ place node. node_look node) (renamed names e) (Node-F.Name name) at
 name_told names e name (Some (standing.Scalar o)) at = fold_made Look (λ place node. node_look node) (renamed names e) (Node-F.Name name) at
 name_told names e name (Some (standing.Constant k)) at = fold_made Look (λ place node. node_look node) (renamed names e) (Node-F.Number k) at
 name_told names e name (Some (standing.Array o other)) at = fold_made Look (λ place node. node_look node) (renamed names e) (Node-F.Name other) at
 
 pub told_at : (names : Names) (e : Expr) (x : Opened) → e.node ≡ roll-Node x → told names e ≡ node_told names (layer_of Look (told names) x)
-unfolding told
+unfolding told look_of
 told_at names e (Node-F.Name name) is = name_told names e name (names name) (renamed_node names e (Node-F.Name name) is)
 told_at names e (Node-F.Access name at) is =
     fold_made Look (λ place node. node_look node) (renamed names e) (Node-F.Access (array_name name (names name)) (renamed names at)) (renamed_node names e (Node-F.Access name at) is)
 told_at names e x is =
     fold_made Look (λ place node. node_look node) (renamed names e) (layer_of Expr (renamed names) x) (renamed_node names e x is)
-    ∙ ap node_look (layer_behind Expr Look (renamed names) look x)
+    ∙ ap node_look (layer_behind Expr Look (renamed names) look_of x)
 
 -- ---- bounds
 
@@ -86,7 +85,6 @@ layer_bounded (Node-F.For definitions test assigns last) =
     && (all_true (map (λ (d : Named × Sort × Bool). d.2) definitions) && (test && (all_true (map (λ (a : Named × Bool). a.1) assigns) && last))))
 layer_bounded (Node-F.Array at value) = at && value
 layer_bounded (Node-F.Update name at value) = at && value
-layer_bounded (Node-F.Replaced parameters arguments body) = false
 
 link_is : (l : Link) → link_bounds l ≡ (l.op, is_bounded l.operand)
 unfolding link_bounds is_bounded
@@ -119,9 +117,7 @@ assigns_are assigns =
     map_same Assign Bool assign_bounds (λ a. is_bounded a.value) assign_is assigns
     ∙ sym (map-map (λ (a : Named × Bool). a.1) (λ (a : Assign). (a.name, is_bounded a.value)) assigns)
 
-replaced_is : (parameters : List Parameter) (arguments : List Expr) (body : Expr) → node_bounds (roll-Node (Node-F.Replaced parameters arguments body)) ≡ false
 unfolding node_bounds
-replaced_is parameters arguments body = fold-roll-Node _ _ _ _ _ _ _ _ _ _ _ _ (Node-F.Replaced parameters arguments body)
 
 node_is : (x : Opened) → node_bounds (roll-Node x) ≡ layer_bounded (layer_of Bool is_bounded x)
 node_is (Node-F.Number v) = ap node_bounds (n.rolls-Number v) ∙ folds.bounds_Number v
@@ -152,7 +148,6 @@ node_is (Node-F.For ds test assigns last) =
     ∙ ap₂ (λ (l m : List Bool). is_some_list l && (is_some_list m && (all_true l && (is_bounded test && (all_true m && is_bounded last))))) (definitions_are ds) (assigns_are assigns))
 node_is (Node-F.Array at value) = ap node_bounds (n.rolls-Array at value) ∙ folds.bounds_Array at value
 node_is (Node-F.Update name at value) = ap node_bounds (n.rolls-Update name at value) ∙ folds.bounds_Update name at value
-node_is (Node-F.Replaced parameters arguments body) = replaced_is parameters arguments body
 
 pub bounds_at : (e : Expr) (x : Opened) → e.node ≡ roll-Node x → is_bounded e ≡ layer_bounded (layer_of Bool is_bounded x)
 bounds_at e x is = ap is_bounded (sym (roll-out-Expr e)) ∙ (folds.made_bounds e.place e.node ∙ (ap node_bounds is ∙ node_is x))

@@ -248,7 +248,6 @@ module _ (all functions : List Function) (numbers : Numbers) (names : Names) (st
       by (Node-F.Test t x) same = let bad = node_here (Node-F.Test t x) same in absurd (cc)
       by (Node-F.TwoPlace o left right) same = let bad = node_here (Node-F.TwoPlace o left right) same in absurd (cc)
       by (Node-F.Fold index low high o elem) same = absurd (operator_basic o b (node_here (Node-F.Fold index low high o elem) same))
-      by (Node-F.Replaced parameters arguments x) same = let bad = node_here (Node-F.Replaced parameters arguments x) same in absurd (cc)
 
   -- what makes the value of a definition or a result
   pub body_typed : (s : Sort) (e : Expr) → is_bounded e ≡ true → first_refusal ((l e).demands scope) ≡ None → (l e).sort scope ≡ s → first_refusal (demands_of e (at Whole)) ≡ None

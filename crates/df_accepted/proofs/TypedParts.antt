@@ -313,9 +313,6 @@ module _ (all functions : List Function) (numbers : Numbers) (names : Names) (st
       (tail_holds (known name e.place scope) (types.demand (is_array (value_sort (scope name))) (WrongType e.place) ∷ [])
       (begin_holds (known_array name e.place scope) (asked (l at.0) integer scope ++ asked (l value.0) (element_of (value_sort (scope name))) scope) h')) in
       node.has_by all names scope (target part stands sorts) e x is (λ b sort. let bad : true ≡ false = sym array ∙ ap is_array sort in absurd (cc))
-  step e (Node-F.Replaced parameters arguments body) is scope sorts part agrees stands bounded h d apart =
-      let bad : true ≡ false = sym bounded ∙ bounds_at e (Node-F.Replaced parameters (map (λ a. a.0) arguments) body.0) is in
-      absurd (cc)
 
   -- a scalar expression has its type in blocks
   pub part_typed : (e : Expr) → Typed e

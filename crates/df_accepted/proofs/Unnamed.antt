@@ -121,9 +121,6 @@ module _ (names : Names) (i : Name) (k : ℤ) (none : names i ≡ None) where
       λ j. node_of (Node-F.For (definitions_same ds first.0 j) (asked.1 second.0 j) (assigns_same assigns third.0 j) (last.1 third.1 j))
   node_same (Node-F.Array at value) h = let parts = or_parts (names_it i at.0) (names_it i value.0) h in ap₂ n.Array (at.1 parts.0) (value.1 parts.1)
   node_same (Node-F.Update m at value) h = let parts = or_parts (names_it i at.0) (names_it i value.0) h in ap₂ (n.Update m) (at.1 parts.0) (value.1 parts.1)
-  node_same (Node-F.Replaced parameters es body) h =
-      let parts = or_parts (list_any (λ b. b) (map (names_it i) (map (λ e. e.0) es))) (names_it i body.0) h in
-      ap₂ (n.Replaced parameters) (values_same es parts.0) (body.1 parts.1)
 
   named_at : (e : Expr) (x : Opened) → e.node ≡ roll-Node x → names_it i e ≡ names_node i (layer_of Bool (names_it i) x)
   unfolding names_it

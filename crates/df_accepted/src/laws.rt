@@ -1,13 +1,11 @@
 //! What follows from the definitions alone: each call does nothing, and its contract is a law.
 ghost use Rattle.std.specs.Prelude.{◌≡◌, All, None};
 ghost use Rattle.df_syntax.specs.declared.piped.Input.{Input};
-ghost use Rattle.df_syntax.specs.declared.piped.Piped as piped;
 ghost use Rattle.df_syntax.specs.declared.program.Program as program;
 ghost use Rattle.df_syntax.specs.Demands.{first_refusal};
 ghost use Rattle.df_syntax.specs.Refusals.{most_open};
 ghost use Rattle.df_syntax.specs.WellBuilt.{IsWellBuilt};
-ghost use Rattle.df_syntax.specs.WellShaped.{HasExtent, HaveRanges, IsFlat, IsPiped};
-ghost use Rattle.df_inline.specs.Inlined.{inlined};
+ghost use Rattle.df_syntax.specs.WellShaped.{HasExtent, HaveRanges, IsPiped};
 ghost use Rattle.df_shape.specs.Shaped.{shaped};
 ghost use Rattle.df_shape.specs.Sources.{demands as form_demands};
 ghost use Rattle.df_types.specs.Sources.{demands};
@@ -18,9 +16,4 @@ ghost use Rattle.df_types.specs.Sources.{demands};
 pub fn accepted_sources_are_piped()
     ensures { (tree : program.Program) → IsWellBuilt most_open tree → first_refusal (demands tree) ≡ None → first_refusal (form_demands tree) ≡ None
         → HaveRanges (shaped tree).blocks → All (λ (p : Input). HasExtent p.extent) (shaped tree).parameters → IsPiped (shaped tree) }
-{}
-
-/// A program in blocks that keeps its demands keeps them once its calls are replaced.
-pub fn inlined_programs_are_flat()
-    ensures { (p : piped.Piped) → IsPiped p → IsFlat (inlined p) }
 {}

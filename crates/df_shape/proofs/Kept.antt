@@ -240,8 +240,6 @@ module _ (names : Names) (of_source of_blocks : Calls) (same_calls : (name : Nam
       (λ taken source blocks agree fresh.
       same_plain (same_arms taken source blocks agree arms _ _ (last.1 taken source blocks agree (and_right (arms_fresh arms taken) _ fresh)).0 (and_left _ _ fresh)))
   step e (Node-F.Let ds es) is = node_kept e (Node-F.Let (map (λ d. d.0) ds) (map (λ x. x.0) es)) is refl (same_let ds es)
-  step e (Node-F.Replaced parameters arguments body) is =
-      node_kept e (Node-F.Replaced parameters (map (λ a. a.0) arguments) body.0) is refl (λ taken source blocks agree fresh. not_both true refl (sym fresh))
   step e y is = node_kept e (without Kept y) is refl (λ taken source blocks agree fresh. (refl, refl))
 
   pub expression_kept : (e : Expr) → Kept e

@@ -115,11 +115,6 @@ array name e at value is = names_at name e (Node-F.Array at value) (opened.array
 pub updated : (name : Name) (e : Expr) (array : Name) (at value : Expr) → e.node ≡ n.Update array at value → names_it name e ≡ (names_it name at || names_it name value)
 updated name e array at value is = names_at name e (Node-F.Update array at value) (opened.updated e.node array at value is)
 
-pub replaced : (name : Name) (e : Expr) (parameters : List Parameter) (arguments : List Expr) (body : Expr) → e.node ≡ n.Replaced parameters arguments body
-    → names_it name e ≡ (in_values name arguments || names_it name body)
-replaced name e parameters arguments body is =
-    names_at name e (Node-F.Replaced parameters arguments body) (opened.replaced e.node parameters arguments body is)
-    ∙ ap (λ b. b || names_it name body) (any_of (λ b. b) (names_it name) arguments)
 
 pub ruleset forms =
-    (number, truth, fault, named, access, called, chain, compared, negate, invert, parens, tested, two_place, chosen, let_in, construct, folded, loop, array, updated, replaced)
+    (number, truth, fault, named, access, called, chain, compared, negate, invert, parens, tested, two_place, chosen, let_in, construct, folded, loop, array, updated)

@@ -88,8 +88,6 @@ array m at value is = opened m (Node-F.Array at value) (is ∙ sym (n.rolls-Arra
 pub updated : (m : Node) (name : Name) (at value : Expr) → m ≡ n.Update name at value → out-Node m ≡ Node-F.Update name at value
 updated m name at value is = opened m (Node-F.Update name at value) (is ∙ sym (n.rolls-Update name at value))
 
-pub replaced : (m : Node) (parameters : List Parameter) (arguments : List Expr) (body : Expr) → m ≡ n.Replaced parameters arguments body → out-Node m ≡ Node-F.Replaced parameters arguments body
-replaced m parameters arguments body is = opened m (Node-F.Replaced parameters arguments body) (is ∙ sym (n.rolls-Replaced parameters arguments body))
 
 -- and back
 
@@ -138,4 +136,4 @@ is_array m at value is = rolled_from m ∙ (ap (λ (x : Opened). roll-Node x) is
 pub is_update : (m : Node) (name : Name) (at value : Expr) → out-Node m ≡ Node-F.Update name at value → m ≡ n.Update name at value
 is_update m name at value is = rolled_from m ∙ (ap (λ (x : Opened). roll-Node x) is ∙ n.rolls-Update name at value)
 
-pub ruleset forms = (number, truth, fault, named, access, called, chain, compared, negate, invert, parens, tested, two_place, chosen, let_in, construct, folded, loop, array, updated, replaced)
+pub ruleset forms = (number, truth, fault, named, access, called, chain, compared, negate, invert, parens, tested, two_place, chosen, let_in, construct, folded, loop, array, updated)

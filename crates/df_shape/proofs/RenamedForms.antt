@@ -133,10 +133,6 @@ pub updated : (names : Names) (e : Expr) (name : Name) (at value : Expr) → e.n
     → (renamed names e).node ≡ n.Update name (renamed names at) (renamed names value)
 updated names e name at value is = renamed_node names e (Node-F.Update name at value) (is ∙ sym (n.rolls-Update name at value))
 
-pub was_replaced : (names : Names) (e : Expr) (parameters : List Parameter) (arguments : List Expr) (body : Expr)
-    → e.node ≡ n.Replaced parameters arguments body → (renamed names e).node ≡ n.Replaced parameters (map (renamed names) arguments) (renamed names body)
-was_replaced names e parameters arguments body is = renamed_node names e (Node-F.Replaced parameters arguments body)
-    (is ∙ sym (n.rolls-Replaced parameters arguments body))
 
 -- an expression keeps its place
 pub placed : (names : Names) (e : Expr) → renamed names e ≡ made_at e.place (renamed names e).node

@@ -69,11 +69,6 @@ pub(crate) fn names_it(name: &Name, expr: &Expr) -> bool
         }
         Node::Array { at, value } => names_it(name, at) || names_it(name, value),
         Node::Update { at, value, .. } => names_it(name, at) || names_it(name, value),
-        Node::Replaced {
-            arguments,
-            body,
-            ..
-        } => { in_values(name, arguments.as_slice()) || names_it(name, body) }
     }
 }
 

@@ -226,20 +226,6 @@ impl Renaming<'_> {
                     value,
                 })
             }
-            Node::Replaced {
-                parameters,
-                arguments,
-                body,
-            } => {
-                let parameters = Items::from_slice(self.alloc, parameters.as_slice())?;
-                let arguments = self.exprs(arguments.as_slice())?;
-                let body = self.expr(body)?;
-                Ok(Node::Replaced {
-                    parameters,
-                    arguments,
-                    body,
-                })
-            }
         }
     }
 

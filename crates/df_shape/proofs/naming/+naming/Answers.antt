@@ -1,5 +1,5 @@
 use Rattle.std.proofs.Common.{refl, sym, ◌∙◌}
-use Rattle.df_shape.proofs.NamesInside.{number, truth, fault, named, access, called, chain, compared, negate, invert, parens, tested, two_place, chosen, let_in, construct, folded, loop, array, updated, replaced}
+use Rattle.df_shape.proofs.NamesInside.{number, truth, fault, named, access, called, chain, compared, negate, invert, parens, tested, two_place, chosen, let_in, construct, folded, loop, array, updated}
 use Rattle.df_shape.proofs.naming.+naming.Goals as goal
 
 pub names_it-returns-in-Number : goal.names_it-returns-in-Number
@@ -137,11 +137,3 @@ names_it-returns-then-names_it-10 t c =
 pub names_it-returns-else-names_it-10 : goal.names_it-returns-else-names_it-10
 names_it-returns-else-names_it-10 t c =
     rw (updated c.args.name.now c.args.expr.now c.in-Update.name c.in-Update.at c.in-Update.value (sym c.get.ensures ∙ c.in-Update.is), ← c.names_it-in-Update.ensures, c.if-names_it-10.false) c.names_it-else-names_it-10.ensures
-
-pub names_it-returns-then-in_values : goal.names_it-returns-then-in_values
-names_it-returns-then-in_values t c =
-    rw (replaced c.args.name.now c.args.expr.now c.in-Replaced.parameters c.in-Replaced.arguments c.in-Replaced.body (sym c.get.ensures ∙ c.in-Replaced.is), ← (rw c.as_slice-in-Replaced.ensures at c.in_values-in-Replaced.ensures), c.if-in_values.true) refl
-
-pub names_it-returns-else-in_values : goal.names_it-returns-else-in_values
-names_it-returns-else-in_values t c =
-    rw (replaced c.args.name.now c.args.expr.now c.in-Replaced.parameters c.in-Replaced.arguments c.in-Replaced.body (sym c.get.ensures ∙ c.in-Replaced.is), ← (rw c.as_slice-in-Replaced.ensures at c.in_values-in-Replaced.ensures), c.if-in_values.false) c.names_it-else-in_values.ensures

@@ -8,7 +8,7 @@ use Rattle.df_syntax.specs.declared.tree.Arm.{Arm}
 use Rattle.df_syntax.specs.declared.tree.Assign.{Assign}
 use Rattle.df_syntax.specs.declared.tree.Definition.{Definition}
 use Rattle.df_syntax.proofs.Pushed.{pushed}
-use Rattle.df_shape.proofs.RenamedForms.{call, chain, chosen, let_is, construct, folded, looped_by, updated, was_replaced, placed}
+use Rattle.df_shape.proofs.RenamedForms.{call, chain, chosen, let_is, construct, folded, looped_by, updated, placed}
 use Rattle.df_shape.proofs.renaming.Renaming.+copy.Goals as goal
 
 pub expr-returns : goal.expr-returns
@@ -58,18 +58,6 @@ pub node-returns-in_ok-value-in-Update : goal.node-returns-in_ok-value-in-Update
 node-returns-in_ok-value-in-Update t c =
     rw (updated (names_of c.args.self.now.names.now) c.args.expr.now c.in-Update.name c.in-Update.at c.in-Update.value (sym c.get.ensures ∙ c.in-Update.is))
     (rw (c.in_ok-at-in-Update.ensures, c.in_ok-value-in-Update.ensures))
-
-pub node-returns-in_ok-body-in-Replaced : goal.node-returns-in_ok-body-in-Replaced
-node-returns-in_ok-body-in-Replaced t c =
-    rw (was_replaced (names_of c.args.self.now.names.now) c.args.expr.now c.in-Replaced.parameters c.in-Replaced.arguments c.in-Replaced.body
-    (sym c.get.ensures ∙ c.in-Replaced.is))
-    (rw (
-      c.in_ok-parameters-in-Replaced.ensures,
-      c.in_ok-arguments-in-Replaced.ensures,
-      c.in_ok-body-in-Replaced.ensures,
-      c.as_slice-in-Replaced.ensures,
-      c.as_slice-in-Replaced-2.ensures,
-    ))
 
 pub links-loop-link-preserved : goal.links-loop-link-preserved
 links-loop-link-preserved t c =
