@@ -14,10 +14,10 @@ use df_names::NameMap;
 use df_syntax::form::Form;
 use df_syntax::tree::Expr;
 use df_values::kinds::Op;
-use df_values::values::Integer;
+use df_values::values::{Exact, Integer};
 
 /// The greatest number of elements of a range.
-const LONGEST: u64 = 4096;
+const LONGEST: u128 = 4096;
 
 /// One demand: whether it holds, and how a source is refused where it does not.
 pub(crate) fn ask(holds: bool, refusal: ShapeAnswer) -> Result<(), ShapeAnswer>
@@ -41,14 +41,14 @@ pub(crate) fn ask_manifest(numbers: &NameMap<Integer>, expr: &Expr) -> Result<In
 }
 
 /// How many indices there are from the lowest to the highest.
-pub(crate) fn length(low: Integer, high: Integer) -> u64
+pub(crate) fn length(low: Integer, high: Integer) -> u128
     ensures { result ≡ elements low high }
 {
-    let length = i64::from(high) - i64::from(low) + 1;
+    let length = Exact::from(high) - Exact::from(low) + 1;
     if length < 0 {
         return 0;
     }
-    length as u64
+    length as u128
 }
 
 /// The length of the range of a construct or a fold at this place. Its bounds are to be known before any input, and it is to
@@ -58,7 +58,7 @@ pub(crate) fn ask_range(
     place: Place,
     low: &Expr,
     high: &Expr,
-) -> Result<u64, ShapeAnswer>
+) -> Result<u128, ShapeAnswer>
     ensures demands { Walked (range_demands (names_of numbers.now) place low.now high.now) result }
     ensures length { IfOk result (λ n. n ≡ length_between (names_of numbers.now) low.now high.now) }
 {
@@ -70,7 +70,7 @@ pub(crate) fn ask_range(
 }
 
 /// Whether a fold by this operator over so many elements has a first one to begin with, where it begins with one.
-pub(crate) fn has_first(op: Op, length: u64) -> bool
+pub(crate) fn has_first(op: Op, length: u128) -> bool
     ensures { result ≡ has_first op length }
 {
     match op {
@@ -84,7 +84,7 @@ pub(crate) fn has_first(op: Op, length: u64) -> bool
 fn is_one_before(before: Integer, low: Integer) -> bool
     ensures { result ≡ is_one_before (Some before) (Some low) }
 {
-    i64::from(before) - i64::from(low) == -1
+    Exact::from(before) - Exact::from(low) == -1
 }
 
 /// A loop is to be a recurrence over bounds that are known before any input. It is to begin one index before the lowest,

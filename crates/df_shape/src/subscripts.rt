@@ -13,10 +13,10 @@ use df_names::NameMap;
 use df_syntax::tree::{Expr, Link, Node};
 use df_values::kinds::Op;
 use df_values::name::Name;
-use df_values::values::Integer;
+use df_values::values::{Exact, Integer};
 
-/// Wide enough for any offset.
-type Whole = i128;
+/// Wide enough for any offset: each part is an ordinary integer, and no list has 2^63 parts.
+type Whole = Exact;
 
 /// Whether a subscript of this array has the form in such a part: it is known before any input, or in a block it is the
 /// index of the block and a known number, which in a recurrence is -1 for its own array.
@@ -60,9 +60,9 @@ fn shift(numbers: &NameMap<Integer>, rest: &[Link]) -> Option<Whole>
 
 /// A sum with one operand more.
 fn shifted(op: Op, sum: Option<Whole>, operand: Option<Integer>) -> Option<Whole>
-    requires { Within (2 ^ 110) sum }
+    requires { Within (2 ^ 126) sum }
     ensures value { result ≡ exact op sum operand }
-    ensures small { (n : ℕ) → Within n sum → Within (n + 2 ^ 32) result }
+    ensures small { (n : ℕ) → Within n sum → Within (n + 2 ^ 63) result }
 {
     match (op, sum, operand) {
         (Op::Add, Some(a), Some(b)) => Some(a + Whole::from(b)),
