@@ -12,14 +12,15 @@ use Rattle.df_syntax.specs.declared.program.Constant.{Constant}
 use Rattle.df_syntax.specs.declared.program.Range.{Range}
 use Rattle.df_syntax.specs.declared.program.Function.{Function}
 use Rattle.df_syntax.specs.declared.program.Program.{Program}
-use Rattle.df_syntax.specs.declared.piped.Input.{Input}
+use Rattle.df_values.specs.Inputs.{HasExtent}
+use Rattle.df_values.specs.declared.inputs.Input.{Input}
 use Rattle.df_syntax.specs.declared.form.Form.TheVariants as rule
 use Rattle.df_syntax.specs.Demands.{first_refusal}
 use Rattle.df_syntax.specs.Refusals.{most_open}
 use Rattle.df_syntax.specs.SourceForms.{Numbers, numbers_of, with_number, manifest}
 use Rattle.df_syntax.specs.SourceMeaning.{or_zero}
 use Rattle.df_syntax.specs.WellBuilt.{IsWellBuilt, is_bounded, is_some_list, function_bounded, program_bounded}
-use Rattle.df_syntax.specs.WellShaped.{Around, Known, HasExtent, HaveRanges, IsPiped, IsPlace, parameter_sorts, blocks_fit}
+use Rattle.df_syntax.specs.WellShaped.{Around, Known, HaveRanges, IsPiped, IsPlace, parameter_sorts, blocks_fit}
 use Rattle.df_syntax.proofs.FirstRefusals.{begin_holds, rest_holds, tail_holds}
 use Rattle.df_names.specs.Maps.{nothing}
 use Rattle.df_types.specs.declared.answers.CheckAnswer.TheVariants.{WrongArity}

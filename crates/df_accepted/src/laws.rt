@@ -1,11 +1,12 @@
 //! What follows from the definitions alone: each call does nothing, and its contract is a law.
 ghost use Rattle.std.specs.Prelude.{◌≡◌, All, None};
-ghost use Rattle.df_syntax.specs.declared.piped.Input.{Input};
+ghost use Rattle.df_values.specs.Inputs.{HasExtent};
+ghost use Rattle.df_values.specs.declared.inputs.Input.{Input};
 ghost use Rattle.df_syntax.specs.declared.program.Program as program;
 ghost use Rattle.df_syntax.specs.Demands.{first_refusal};
 ghost use Rattle.df_syntax.specs.Refusals.{most_open};
 ghost use Rattle.df_syntax.specs.WellBuilt.{IsWellBuilt};
-ghost use Rattle.df_syntax.specs.WellShaped.{HasExtent, HaveRanges, IsPiped};
+ghost use Rattle.df_syntax.specs.WellShaped.{HaveRanges, IsPiped};
 ghost use Rattle.df_shape.specs.Shaped.{shaped};
 ghost use Rattle.df_shape.specs.Sources.{demands as form_demands};
 ghost use Rattle.df_types.specs.Sources.{demands};

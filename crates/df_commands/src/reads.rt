@@ -16,12 +16,7 @@ use std::alloc::Global;
 
 // The text of a file, if it is there and within its limit.
 #[tactic(auto, unfolding(crate::specs::Verdicts::text_at))]
-fn text_of<F: Files>(
-    alloc: Global,
-    files: &mut F,
-    name: &String,
-    kind: Text,
-) -> Result<Bytes, Stop>
+fn text_of<F: Files>(alloc: Global, files: &mut F, name: &String, kind: Text) -> Result<Bytes, Stop>
     requires { F.mode files.old ≡ FileMode.Idle }
     ensures mode { F.mode files.new ≡ FileMode.Idle }
     ensures holds { IsTrue F.tells → (F.told files.new).holds ≡ (F.told files.old).holds }

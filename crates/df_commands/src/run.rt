@@ -37,12 +37,7 @@ fn judged(alloc: Global, cells: &[u8], input: &[u8], schedule: &[u8]) -> Result<
 }
 
 /// Runs the cells on the inputs by the schedule, and reports.
-pub fn run<'a>(
-    alloc: Global,
-    cells: &[u8],
-    input: &[u8],
-    schedule: &[u8],
-) -> Result<Plan<'a>, Stop>
+pub fn run<'a>(alloc: Global, cells: &[u8], input: &[u8], schedule: &[u8]) -> Result<Plan<'a>, Stop>
     requires { length input.now ≤ 4294967294 }
     ensures settles { Settles (JudgesRun cells.now input.now schedule.now) result }
     ensures no_fault { IsErrOf result Stop.ReadFault → ⊥ }

@@ -6,27 +6,26 @@ ghost use Rattle.df_ranges.specs.Offsets.{is_one_before};
 
 use crate::offsets::{Whole, is_before};
 use df_values::kinds::Op;
-use df_values::values::Integer;
+use df_values::values::{Exact, Integer};
 
 /// How many indices there are from the lowest to the highest.
-pub fn length(low: Integer, high: Integer) -> u64
+pub fn length(low: Integer, high: Integer) -> u128
     ensures { result ≡ elements low high }
 {
-    let length = i64::from(high) - i64::from(low) + 1;
+    let length = Exact::from(high) - Exact::from(low) + 1;
     if length < 0 {
         return 0;
     }
-    length as u64
+    length as u128
 }
 
 /// Whether a fold by this operator over so many elements has a first one to begin with, where it begins with one.
-pub fn has_first(op: Op, length: u64) -> bool
+pub fn has_first(op: Op, length: u128) -> bool
     ensures { result ≡ has_first op length }
 {
     match op {
-        Op::Min => length != 0,
-        Op::Max => length != 0,
-        _ => true,
+        Op::Add | Op::Mul | Op::And | Op::Or => true,
+        _ => length != 0,
     }
 }
 

@@ -6,16 +6,16 @@ ghost use Rattle.df_ranges.specs.Sizes.{Within};
 
 use df_values::kinds::Op;
 use df_values::name::Name;
-use df_values::values::Integer;
+use df_values::values::{Exact, Integer};
 
-/// Wide enough for any offset.
-pub type Whole = i128;
+/// Wide enough for any offset: each part is an ordinary integer, and no list has 2^63 parts.
+pub type Whole = Exact;
 
 /// A sum with one operand more.
 pub fn shifted(op: Op, sum: Option<Whole>, operand: Option<Integer>) -> Option<Whole>
-    requires { Within (2 ^ 110) sum }
+    requires { Within (2 ^ 126) sum }
     ensures value { result ≡ exact op sum operand }
-    ensures small { (n : ℕ) → Within n sum → Within (n + 2 ^ 32) result }
+    ensures small { (n : ℕ) → Within n sum → Within (n + 2 ^ 63) result }
 {
     match (op, sum, operand) {
         (Op::Add, Some(a), Some(b)) => Some(a + Whole::from(b)),

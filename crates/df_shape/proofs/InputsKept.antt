@@ -5,8 +5,8 @@ use Rattle.df_syntax.specs.declared.tree.Sort.TheVariants as of
 use Rattle.df_syntax.specs.declared.tree.Parameter.{Parameter}
 use Rattle.df_syntax.specs.declared.tree.Expr.{Expr}
 use Rattle.df_syntax.specs.declared.program.Range.{Range}
-use Rattle.df_syntax.specs.declared.piped.Extent.{Extent}
-use Rattle.df_syntax.specs.declared.piped.Input.{Input}
+use Rattle.df_values.specs.declared.inputs.Extent.{Extent}
+use Rattle.df_values.specs.declared.inputs.Input.{Input}
 use Rattle.df_syntax.specs.Demands.{first_refusal}
 use Rattle.df_syntax.proofs.FirstRefusals.{begin_holds, rest_holds}
 use Rattle.df_syntax.specs.Meaning.{Name}

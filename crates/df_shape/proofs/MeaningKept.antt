@@ -6,7 +6,7 @@ use Rattle.std.proofs.lemmas.List.Folds.{list_all-append}
 use Rattle.std.specs.List.{list_all, list_any}
 use Rattle.std.specs.Prelude.{flat_map, not, slice_index_or}
 use Rattle.df_values.specs.declared.values.Value.{Value}
-use Rattle.df_values.specs.Inputs.{AreValid}
+use Rattle.df_values.specs.Inputs.{AreValid, input_length, declared}
 use Rattle.df_syntax.specs.declared.bound.Bound.{Bound}
 use Rattle.df_syntax.specs.declared.bound.Bound.TheVariants.{Scalar}
 use Rattle.df_syntax.specs.declared.tree.Expr.{Expr}
@@ -17,7 +17,7 @@ use Rattle.df_syntax.specs.declared.program.Constant.{Constant}
 use Rattle.df_syntax.specs.declared.program.Range.{Range}
 use Rattle.df_syntax.specs.declared.program.Function.{Function}
 use Rattle.df_syntax.specs.declared.program.Program.{Program}
-use Rattle.df_syntax.specs.declared.piped.Input.{Input}
+use Rattle.df_values.specs.declared.inputs.Input.{Input}
 use Rattle.df_syntax.specs.declared.piped.Outcome.TheVariants as outcome
 use Rattle.df_syntax.specs.Demands.{first_refusal}
 use Rattle.df_syntax.proofs.FirstRefusals.{begin_holds, rest_holds}
@@ -26,7 +26,7 @@ use Rattle.df_syntax.specs.FreshNames as fresh_names
 use Rattle.df_syntax.specs.Meaning.{Name, calls, bound_at}
 use Rattle.df_syntax.specs.BlockMeaning.{given, inputs_bound, blocks_made, result_of, values_of, cut, mean}
 use Rattle.df_syntax.specs.SourceForms.{Constants, Numbers, constants_of, numbers_of}
-use Rattle.df_syntax.specs.SourceMeaning.{bound_value, extent_of, input_of, inputs_of, input_length, declared, source_calls, body_bounds, main_inputs, main_mean, source_inputs, source_mean}
+use Rattle.df_syntax.specs.SourceMeaning.{bound_value, extent_of, input_of, inputs_of, source_calls, body_bounds, main_inputs, main_mean, source_inputs, source_mean}
 use Rattle.df_names.specs.Maps.{bind}
 use Rattle.df_shape.specs.Renamed.{Names, function_renamed}
 use Rattle.df_shape.specs.Shaped.{constant_standing, constant_names, standing_by, with_parameters, main_blocks, program_blocks, shaped}

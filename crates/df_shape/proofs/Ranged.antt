@@ -17,8 +17,9 @@ use Rattle.df_syntax.specs.declared.tree.Node.TheOpen.{Node-F}
 use Rattle.df_syntax.specs.declared.program.Range.{Range}
 use Rattle.df_syntax.specs.declared.program.Function.{Function}
 use Rattle.df_syntax.specs.declared.program.Program.{Program}
-use Rattle.df_syntax.specs.declared.piped.Extent.{Extent}
-use Rattle.df_syntax.specs.declared.piped.Input.{Input}
+use Rattle.df_values.specs.Inputs.{HasExtent}
+use Rattle.df_values.specs.declared.inputs.Extent.{Extent}
+use Rattle.df_values.specs.declared.inputs.Input.{Input}
 use Rattle.df_syntax.specs.declared.piped.Body.{Body}
 use Rattle.df_syntax.specs.declared.piped.Body.TheVariants as body
 use Rattle.df_syntax.specs.declared.piped.Block.{Block}
@@ -27,7 +28,7 @@ use Rattle.df_syntax.specs.TreeInduction.{Proved, without, tree_induction}
 use Rattle.df_syntax.specs.Besides.{layer_map, beside_rolled}
 use Rattle.df_syntax.specs.Demands.{first_refusal}
 use Rattle.df_syntax.specs.Meaning.{Name}
-use Rattle.df_syntax.specs.WellShaped.{HasRange, HaveRanges, HasExtent, has_first}
+use Rattle.df_syntax.specs.WellShaped.{HasRange, HaveRanges, has_first}
 use Rattle.df_syntax.specs.SourceForms.{Numbers, numbers_of, form, bare, without_parens, is_let, manifest, Recurrence, recurrence_of}
 use Rattle.df_syntax.specs.SourceMeaning.{over, or_zero, extent_over, extent_of, input_of, inputs_of}
 use Rattle.df_syntax.proofs.FirstRefusals.{begin_holds, rest_holds, head_holds}

@@ -2,8 +2,8 @@
 use Rattle.std.specs.Prelude.{ℕ, suc, ℤ, pos, ◌≤ℤ◌, ◌+ℤ◌, List, All, Option, Some, None}
 use Rattle.df_values.specs.Values.{greatest, IsOrdinary}
 use Rattle.df_syntax.specs.declared.tree.Expr.{Expr}
-use Rattle.df_syntax.specs.declared.piped.Extent.{Extent}
-use Rattle.df_syntax.specs.declared.piped.Input.{Input}
+use Rattle.df_values.specs.declared.inputs.Extent.{Extent}
+use Rattle.df_values.specs.declared.inputs.Input.{Input}
 use Rattle.df_syntax.specs.declared.piped.Body.{Body}
 use Rattle.df_syntax.specs.declared.piped.Body.TheVariants as body
 use Rattle.df_syntax.specs.declared.piped.Block.{Block}

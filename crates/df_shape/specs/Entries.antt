@@ -6,8 +6,8 @@ use Rattle.df_syntax.specs.declared.tree.Parameter.{Parameter}
 use Rattle.df_syntax.specs.declared.tree.Expr.{Expr}
 use Rattle.df_syntax.specs.declared.program.Constant.{Constant}
 use Rattle.df_syntax.specs.declared.program.Range.{Range}
-use Rattle.df_syntax.specs.declared.piped.Extent.{Extent}
-use Rattle.df_syntax.specs.declared.piped.Input.{Input}
+use Rattle.df_values.specs.declared.inputs.Extent.{Extent}
+use Rattle.df_values.specs.declared.inputs.Input.{Input}
 use Rattle.df_syntax.specs.Meaning.{Name}
 use Rattle.df_syntax.specs.SourceForms.{Numbers, manifest, with_number}
 use Rattle.df_syntax.specs.SourceMeaning.{or_zero, extent_over}

@@ -1,8 +1,9 @@
 //! Sources as programs in blocks.
 ghost use Rattle.std.specs.Prelude.{◌≡◌, ◌∷◌, [], map, reverse, length, IfOk, None, All};
 ghost use Rattle.df_syntax.specs.Demands.{first_refusal};
-ghost use Rattle.df_syntax.specs.declared.piped.Input.{Input};
-ghost use Rattle.df_syntax.specs.WellShaped.{HaveRanges, HasExtent};
+ghost use Rattle.df_values.specs.Inputs.{HasExtent};
+ghost use Rattle.df_values.specs.declared.inputs.Input.{Input};
+ghost use Rattle.df_syntax.specs.WellShaped.{HaveRanges};
 ghost use Rattle.df_syntax.specs.SourceForms.{numbers_of};
 ghost use Rattle.df_names.specs.Found.{names_of};
 ghost use Rattle.df_shape.specs.Renamed.{function_renamed};

@@ -6,10 +6,10 @@ ghost use Rattle.df_shape.specs.Bounded.{IsBounded, IsBoundedRange, range_betwee
 
 use crate::manifest::manifest;
 use df_names::NameMap;
-use df_syntax::piped::Extent;
 use df_syntax::tree::Expr;
+use df_values::inputs::Extent;
 use df_values::memory::Memory;
-use df_values::values::Integer;
+use df_values::values::{Exact, Integer};
 
 /// The range from a lowest to a highest index. There is no room for more than `u32::MAX` elements.
 pub(crate) fn extent(lo: Integer, hi: Integer) -> Result<Extent, Memory>
@@ -19,7 +19,7 @@ pub(crate) fn extent(lo: Integer, hi: Integer) -> Result<Extent, Memory>
     if hi < lo {
         return Ok(Extent { lo, n: 0 });
     }
-    let n = i64::from(hi) - i64::from(lo) + 1;
+    let n = Exact::from(hi) - Exact::from(lo) + 1;
     match u32::try_from(n) {
         Ok(n) => Ok(Extent { lo, n }),
         Err(_) => Err(Memory),

@@ -1,12 +1,12 @@
 //! What follows from the definitions alone: the call does nothing, and its contract is a law.
 ghost use Rattle.std.specs.Prelude.{◌≡◌, List, IsTrue, None};
 ghost use Rattle.df_values.specs.declared.values.Value as value;
-ghost use Rattle.df_values.specs.Inputs.{AreValid};
+ghost use Rattle.df_values.specs.Inputs.{AreValid, declared};
 ghost use Rattle.df_syntax.specs.declared.program.Program as program;
 ghost use Rattle.df_syntax.specs.Demands.{first_refusal};
 ghost use Rattle.df_syntax.specs.FreshNames.{names_are_new};
 ghost use Rattle.df_syntax.specs.BlockMeaning.{mean};
-ghost use Rattle.df_syntax.specs.SourceMeaning.{declared, source_inputs, source_mean};
+ghost use Rattle.df_syntax.specs.SourceMeaning.{source_inputs, source_mean};
 ghost use Rattle.df_shape.specs.Shaped.{shaped};
 ghost use Rattle.df_shape.specs.Sources.{demands};
 

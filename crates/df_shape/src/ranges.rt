@@ -16,7 +16,7 @@ use df_syntax::tree::Expr;
 use df_values::values::Integer;
 
 /// The greatest number of elements of a range.
-const LONGEST: u64 = 4096;
+const LONGEST: u128 = 4096;
 
 /// One demand: whether it holds, and how a source is refused where it does not.
 pub(crate) fn ask(holds: bool, refusal: ShapeAnswer) -> Result<(), ShapeAnswer>
@@ -46,7 +46,7 @@ pub(crate) fn ask_range(
     place: Place,
     low: &Expr,
     high: &Expr,
-) -> Result<u64, ShapeAnswer>
+) -> Result<u128, ShapeAnswer>
     ensures demands { Walked (range_demands (names_of numbers.now) place low.now high.now) result }
     ensures length { IfOk result (λ n. n ≡ length_between (names_of numbers.now) low.now high.now) }
 {

@@ -1,7 +1,8 @@
 //! Sources put into blocks.
 ghost use Rattle.std.specs.Prelude.{IfOk, All};
-ghost use Rattle.df_syntax.specs.declared.piped.Input.{Input};
-ghost use Rattle.df_syntax.specs.WellShaped.{HaveRanges, HasExtent};
+ghost use Rattle.df_values.specs.Inputs.{HasExtent};
+ghost use Rattle.df_values.specs.declared.inputs.Input.{Input};
+ghost use Rattle.df_syntax.specs.WellShaped.{HaveRanges};
 ghost use Rattle.df_shape.specs.Answers.{Shapes};
 
 use crate::answers::ShapeAnswer;

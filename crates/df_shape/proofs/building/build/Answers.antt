@@ -4,10 +4,11 @@ use Rattle.std.specs.List.{All}
 use Rattle.std.proofs.lemmas.List.{reverse-append, take_all, nil_from_length}
 use Rattle.df_syntax.specs.declared.program.Function.{Function}
 use Rattle.df_syntax.specs.declared.program.Program.{Program}
-use Rattle.df_syntax.specs.declared.piped.Input.{Input}
+use Rattle.df_values.specs.Inputs.{HasExtent}
+use Rattle.df_values.specs.declared.inputs.Input.{Input}
 use Rattle.df_syntax.specs.declared.piped.Piped.{Piped}
 use Rattle.df_syntax.specs.Demands.{first_refusal}
-use Rattle.df_syntax.specs.WellShaped.{HaveRanges, HasExtent}
+use Rattle.df_syntax.specs.WellShaped.{HaveRanges}
 use Rattle.df_syntax.specs.SourceForms.{Numbers, numbers_of}
 use Rattle.df_names.specs.Found.{names_of}
 use Rattle.df_shape.specs.Shaped.{program_blocks, shaped}

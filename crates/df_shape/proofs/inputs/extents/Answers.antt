@@ -1,6 +1,6 @@
 use Rattle.std.proofs.Common.{◌≡◌, not, ap, sym, ◌∙◌, subst, take}
 use Rattle.std.specs.Option.{is_some}
-use Rattle.df_syntax.specs.declared.piped.Extent.{Extent}
+use Rattle.df_values.specs.declared.inputs.Extent.{Extent}
 use Rattle.df_names.specs.Found.{names_of}
 use Rattle.df_names.specs.Maps.{Names, bind}
 use Rattle.df_shape.specs.Bounded.{AreBounded}

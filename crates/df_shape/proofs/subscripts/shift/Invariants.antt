@@ -7,5 +7,5 @@ use Rattle.df_shape.proofs.subscripts.shift.Given as goal
 abbrev pub invariant-loop-link : goal.invariant-loop-link
 invariant-loop-link l = record {
   sum : l.sum ≡ fold (offset_link (names_of l.numbers)) (Some (pos 0)) (take l.link-index l.rest);
-  small : Within (2 ^ 32 * (l.link-index + 1)) l.sum;
+  small : Within (2 ^ 63 * (l.link-index + 1)) l.sum;
 }
