@@ -1,6 +1,6 @@
 -- What is demanded of the form of an expression, by its node and by the part that it is.
-use Rattle.std.proofs.Common.{[], ◌≡◌, Bool, true, false, ◌++◌, sym, ◌∙◌, ap, refl, Option, Some, None}
-use Rattle.std.specs.Option.{is_none}
+use Rattle.std.proofs.Common.{[], ◌≡◌, Bool, true, false, not, ◌++◌, sym, ◌∙◌, ap, subst, refl, Option, Some, None, bytes_eq}
+use Rattle.std.specs.Option.{is_none, is_some}
 use Rattle.df_syntax.specs.declared.tree.Expr.{Expr}
 use Rattle.df_syntax.specs.declared.tree.Node.{roll-Node}
 use Rattle.df_syntax.specs.declared.tree.Node.TheOpen.{Node-F}
@@ -14,6 +14,13 @@ use Rattle.df_shape.specs.declared.answers.ShapeAnswer.{ShapeAnswer}
 use Rattle.df_shape.specs.Demands as shape
 use Rattle.df_shape.specs.Demands.{Demands, Around, demand, operand_part, may_be_block, own_demands, inner_demands, look_node, demands_of, call_rule, block_rule, conditional_rule, defined_rule, array_rule, range_rule, subscript_rule}
 use Rattle.df_shape.specs.Renamed.{Names}
+use Rattle.df_names.specs.Maps.{bind}
+use Rattle.df_types.specs.Scopes as scopes
+use Rattle.df_types.specs.declared.entry.Entry.{Entry}
+use Rattle.df_syntax.specs.Meaning.{Name}
+use Rattle.df_syntax.specs.WellShaped.{is_index}
+use Rattle.std.proofs.lemmas.Slice.Eq.{bytes_eq-Decides}
+use Rattle.df_accepted.proofs.Agreed.{some_behind}
 use Rattle.df_accepted.proofs.Subscripted.{StandsIn, subscripts_of}
 
 -- ---- parts
@@ -35,6 +42,48 @@ still_stands names Inside h = h
 still_stands names Defined h = h
 still_stands names First h = h
 still_stands names (Next index own) h = h
+
+-- the index of an element is bound
+abbrev pub HasIndex : scopes.Names → Part → Type 0
+HasIndex scope (Element index own) = is_some (scope index) ≡ true
+HasIndex scope part = Unit {0}
+
+pub still_has : (scope : scopes.Names) (part : Part) → HasIndex scope part → HasIndex scope (operand_part part)
+still_has scope (Element index own) h = h
+still_has scope Whole h = h
+still_has scope Inside h = h
+still_has scope Defined h = h
+still_has scope First h = h
+still_has scope (Next index own) h = h
+
+-- a name more leaves it bound
+pub has_behind : (scope : scopes.Names) (part : Part) (name : Name) (e : Entry) → HasIndex scope part → HasIndex (bind scope name e) part
+has_behind scope (Element index own) name e h = some_behind scope name e index h
+has_behind scope Whole name e h = tt
+has_behind scope Inside name e h = tt
+has_behind scope Defined name e h = tt
+has_behind scope First name e h = tt
+has_behind scope (Next index own) name e h = tt
+
+other_name : (scope : scopes.Names) (name index : Name) → is_some (scope index) ≡ true → scope name ≡ None → bytes_eq name index ≡ false
+other_name scope name index h none = by (bytes_eq name index) refl
+  where
+    by : (b : Bool) → bytes_eq name index ≡ b → bytes_eq name index ≡ false
+    by false is = is
+    by true is =
+        let same : name ≡ index = (bytes_eq-Decides name index).0 is in
+        let bad : true ≡ false = sym h ∙ ap is_some (subst (λ (m : Name). scope m ≡ None) same none) in
+        absurd (cc)
+
+-- a name that isn't bound is not that of the index
+pub no_index : (scope : scopes.Names) (part : Part) (name : Name) → HasIndex scope part → scope name ≡ None → not (is_index (subscripts_of part) name) ≡ true
+no_index scope (Element index None) name h none = ap not (other_name scope name index h none)
+no_index scope (Element index (Some own)) name h none = ap not (other_name scope name index h none)
+no_index scope Whole name h none = refl
+no_index scope Inside name h none = refl
+no_index scope Defined name h none = refl
+no_index scope First name h none = refl
+no_index scope (Next index own) name h none = refl
 
 pub no_block : (part : Part) → may_be_block (operand_part part) ≡ false
 no_block (Element index own) = refl

@@ -141,7 +141,7 @@ module _ (all functions : List Function) (numbers : Numbers) (names : Names) (st
           absurd (cc)
       by x same =
           ap as_scalar (type_is names e known
-          ∙ part_typed all functions numbers names stand arrays callable gives e scope sorts Whole agrees tt bounded h d (λ may. ap is_block same) b sort)
+          ∙ part_typed all functions numbers names stand arrays callable gives e scope sorts Whole agrees tt tt bounded h d (λ may. ap is_block same) b sort)
 
   -- ---- arrays
 

@@ -25,6 +25,7 @@ use Rattle.df_syntax.specs.WellShaped.{Known, Offset, operand_type, has_first, w
 use Rattle.df_syntax.proofs.FirstRefusals.{begin_holds, rest_holds, head_holds}
 use Rattle.df_types.specs.declared.answers.CheckAnswer.TheVariants.{WrongType}
 use Rattle.df_types.specs.Demands as types
+use Rattle.df_types.specs.declared.entry.Entry.TheVariants as entry
 use Rattle.df_types.specs.Scopes as scopes
 use Rattle.df_types.specs.Sorts.{integer, array_of, operator_sort, is_basic}
 use Rattle.df_types.specs.Types.{Look, look_of, asked, asked_basic, fresh}
@@ -37,7 +38,7 @@ use Rattle.df_shape.specs.Demands.{Demands, Around, demand, demands_of, manifest
 use Rattle.df_shape.specs.Renamed.{Names, renamed}
 use Rattle.df_shape.specs.Shaped.{between}
 use Rattle.df_shape.proofs.BoundsKnown.{form_plain, form_parens}
-use Rattle.df_accepted.proofs.Agreed.{Agrees, Sorts, agrees_inside, none_new}
+use Rattle.df_accepted.proofs.Agreed.{Agrees, Sorts, agrees_inside, none_new, bind_new}
 use Rattle.df_accepted.proofs.Forms.{around}
 use Rattle.df_accepted.proofs.FormDemands.{is_nothing, one_holds, kept_at}
 use Rattle.df_accepted.proofs.ManifestParts.{NumbersStand}
@@ -89,7 +90,7 @@ module _ (all functions : List Function) (numbers : Numbers) (names : Names) (st
       let inner = agrees_inside all functions callable names scope sorts agrees index.name integer none in
       let index_stands = none_new all functions callable names scope sorts agrees index.name integer none index.name (is_itself index.name) in
       type_is names elem (around (sorts ++ (index.name, integer) ∷ []) functions (Offset index.name))
-      ∙ part_typed all functions numbers names stand arrays callable gives elem (look.inside index scope) (sorts ++ (index.name, integer) ∷ []) (Element index.name None) inner index_stands bounded h d (λ may. absurd (cc)) c sort
+      ∙ part_typed all functions numbers names stand arrays callable gives elem (look.inside index scope) (sorts ++ (index.name, integer) ∷ []) (Element index.name None) inner index_stands (ap is_some (bind_new scope index.name (entry.Local integer) index.name (is_itself index.name))) bounded h d (λ may. absurd (cc)) c sort
 
   abbrev range_asked : Named → Expr → Expr → List types.Demand
   range_asked index low high = look.range_demands index (l low) (l high) scope

@@ -94,7 +94,7 @@ module _ (all before functions : List Function) (numbers : Numbers) (names : Nam
       by (v ∷ []) b agrees_here bounded_here asked_here demanded is =
           let inner = bound (parameters f.parameters) scope in
           let asked_v = begin_holds (asked (look_of all v) (of.Basic b) inner) [] (tail_holds (types.demand ((look_of all v).count == 1) (WrongArity v.place)) (asked (look_of all v) (of.Basic b) inner ++ []) asked_here) in
-          let type_here = part_typed all functions numbers names stand (λ name. false) (callable_among before) (source.gives_an_array all) v inner (parameter_sorts f.parameters) Inside agrees_here tt
+          let type_here = part_typed all functions numbers names stand (λ name. false) (callable_among before) (source.gives_an_array all) v inner (parameter_sorts f.parameters) Inside agrees_here tt tt
           (and_parts (is_bounded v) true bounded_here).0 (begin_holds ((look_of all v).demands inner) (types.demand (is_same ((look_of all v).sort inner) (of.Basic b)) (WrongType (look_of all v).place) ∷ []) asked_v) (begin_holds (demands_of v (around_function numbers all before)) [] demanded) (λ may. absurd (cc))
           b (asked_is all (λ e. None) inner (look_of all v) b asked_v) in
           alike_both b _ _ (type_is names v (around (parameter_sorts f.parameters) functions Known) ∙ type_here) is

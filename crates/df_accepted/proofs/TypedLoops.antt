@@ -22,7 +22,7 @@ use Rattle.df_shape.specs.declared.standing.Standing.{Standing}
 use Rattle.df_shape.specs.declared.standing.Standing.TheVariants as standing
 use Rattle.df_shape.specs.Demands.{demands_of}
 use Rattle.df_shape.specs.Renamed.{Names, array_name, renamed}
-use Rattle.df_accepted.proofs.Agreed.{Agrees, Fits, Sorts, agrees_inside, agrees_more, none_new, differs, fits_kept, bind_new, bind_old, sort_behind}
+use Rattle.df_accepted.proofs.Agreed.{Agrees, Fits, Sorts, agrees_inside, agrees_more, none_new, differs, fits_kept, bind_new, bind_old, some_behind, sort_behind}
 use Rattle.df_accepted.proofs.Forms.{around}
 use Rattle.df_accepted.proofs.ManifestParts.{NumbersStand}
 use Rattle.df_accepted.proofs.TypedFunctions.{type_is}
@@ -84,7 +84,7 @@ module _ (all functions : List Function) (numbers : Numbers) (names : Names) (st
   first_typed first b unnamed bounded h sort d =
       ap (λ (e : Expr). type_of e (around sorts functions Known)) (sym (same_renamed names i (pos 0) none_here first unnamed))
       ∙ (type_is new first (around sorts functions Known)
-      ∙ part_typed all functions numbers new new_stand arrays callable gives first with_index sorts Inside agrees_new tt bounded h d (λ may. absurd (cc)) b sort)
+      ∙ part_typed all functions numbers new new_stand arrays callable gives first with_index sorts Inside agrees_new tt tt bounded h d (λ may. absurd (cc)) b sort)
     where
       new : Names
       new = bind names i (standing.Constant (pos 0))
@@ -108,7 +108,7 @@ module _ (all functions : List Function) (numbers : Numbers) (names : Names) (st
   next_typed elem b none_t bounded h sort d =
       type_is names elem (around ((sorts ++ (t, of.Array b) ∷ []) ++ (i, integer) ∷ []) functions (Previous i t))
       ∙ part_typed all functions numbers names stand arrays callable gives elem (with_both b) ((sorts ++ (t, of.Array b) ∷ []) ++ (i, integer) ∷ []) (Element i (Some t))
-      agrees_both (none_i_stands, own_stands) bounded h d (λ may. absurd (cc)) b sort
+      agrees_both (none_i_stands, own_stands) (some_behind with_index t (entry.Local (of.Array b)) i (ap is_some (bind_new scope i (entry.Local integer) i (is_itself i)))) bounded h d (λ may. absurd (cc)) b sort
     where
       agrees_index : Agrees all functions callable names with_index (sorts ++ (i, integer) ∷ [])
       agrees_index = agrees_inside all functions callable names scope sorts agrees i integer none_i

@@ -1,7 +1,7 @@
 -- A scalar expression of an accepted source has its type in blocks.
-use Rattle.std.proofs.Common.{arith, length, ◌≡◌, Bool, true, false, if◌then◌else◌, ◌&&◌, List, [], ◌∷◌, ◌++◌, map, fold, refl, sym, ◌∙◌, ap, subst, Option, Some, None}
+use Rattle.std.proofs.Common.{arith, length, ◌≡◌, Bool, true, false, not, if◌then◌else◌, ◌&&◌, List, [], ◌∷◌, ◌++◌, map, fold, refl, sym, ◌∙◌, ap, subst, Option, Some, None}
 use Rattle.std.specs.Prelude.{flat_map}
-use Rattle.std.proofs.lemmas.Bool.{and_parts}
+use Rattle.std.proofs.lemmas.Bool.{and_parts, and_from}
 use Rattle.std.proofs.lemmas.List.{length-map}
 use Rattle.df_values.specs.declared.kinds.Op.{Op}
 use Rattle.df_values.specs.declared.values.Basic as basic
@@ -22,7 +22,7 @@ use Rattle.df_syntax.specs.SourceForms.{Numbers, form}
 use Rattle.df_syntax.specs.TreeInduction.{Proved, without, tree_induction}
 use Rattle.df_syntax.specs.WellBuilt.{is_bounded, has_one_level, all_true, is_some_list, is_two_place}
 use Rattle.df_syntax.specs.WellShaped as shaped
-use Rattle.df_syntax.specs.WellShaped.{with_name, defines, only_type}
+use Rattle.df_syntax.specs.WellShaped.{with_name, defines, only_type, is_index}
 use Rattle.df_syntax.proofs.FirstRefusals.{begin_holds, rest_holds, head_holds, tail_holds}
 use Rattle.df_types.specs.declared.answers.CheckAnswer.TheVariants.{WrongType}
 use Rattle.df_types.specs.declared.entry.Entry.TheVariants as entry
@@ -41,7 +41,7 @@ use Rattle.df_shape.specs.Renamed.{Names}
 use Rattle.df_shape.proofs.BoundsKnown.{form_plain, form_parens}
 use Rattle.df_shape.proofs.Opened.{rolled_from}
 use Rattle.df_accepted.proofs.Agreed.{Agrees, Sorts, agrees_inside}
-use Rattle.df_accepted.proofs.FormDemands.{same_subscripts, still_stands, no_block, is_block, is_nothing, one_holds, kept_at}
+use Rattle.df_accepted.proofs.FormDemands.{HasIndex, still_has, has_behind, no_index, same_subscripts, still_stands, no_block, is_block, is_nothing, one_holds, kept_at}
 use Rattle.df_accepted.proofs.Forms.{around}
 use Rattle.df_accepted.proofs.ManifestParts.{NumbersStand}
 use Rattle.df_accepted.proofs.Subscripted.{StandsIn, subscripts_of, accepted}
@@ -64,7 +64,7 @@ module _ (all functions : List Function) (numbers : Numbers) (names : Names) (st
   here part = record { numbers = numbers; arrays = arrays; callable = callable; gives = gives; part = part }
 
   abbrev pub Typed : Expr → Type 0
-  Typed e = (scope : scopes.Names) (sorts : Sorts) (part : Part) → Agrees all functions callable names scope sorts → StandsIn names part → is_bounded e ≡ true
+  Typed e = (scope : scopes.Names) (sorts : Sorts) (part : Part) → Agrees all functions callable names scope sorts → StandsIn names part → HasIndex scope part → is_bounded e ≡ true
       → first_refusal ((look_of all e).demands scope) ≡ None → first_refusal (demands_of e (here part)) ≡ None
       → (may_be_block part ≡ true → is_block (form e) ≡ false)
       → node.Has all names scope (around sorts functions (subscripts_of part)) e
@@ -77,14 +77,14 @@ module _ (all functions : List Function) (numbers : Numbers) (names : Names) (st
     abbrev target : Sorts → shaped.Around
     target sorts = around sorts functions (subscripts_of part)
 
-    module _ (scope : scopes.Names) (sorts : Sorts) (agrees : Agrees all functions callable names scope sorts) where
+    module _ (scope : scopes.Names) (sorts : Sorts) (agrees : Agrees all functions callable names scope sorts) (indexed : HasIndex scope part) where
       abbrev Has : Expr → Type 0
       Has = node.Has all names scope (target sorts)
 
       operand : (e : (e : Expr) × Typed e) → is_bounded e.0 ≡ true → first_refusal ((l e.0).demands scope) ≡ None → first_refusal (demands_of e.0 (inside (here part))) ≡ None → Has e.0
       operand e bounded h d =
           subst (λ (u : shaped.Subscripts). node.Has all names scope (around sorts functions u) e.0) (same_subscripts part)
-          (e.1 scope sorts (operand_part part) agrees (still_stands names part stands) bounded h d (λ may. let bad : false ≡ true = sym (no_block part) ∙ may in absurd (cc)))
+          (e.1 scope sorts (operand_part part) agrees (still_stands names part stands) (still_has scope part indexed) bounded h d (λ may. let bad : false ≡ true = sym (no_block part) ∙ may in absurd (cc)))
 
       asked_operand_has : (e : (e : Expr) × Typed e) (s : Sort) → is_bounded e.0 ≡ true → first_refusal (asked (l e.0) s scope) ≡ None → first_refusal (demands_of e.0 (inside (here part))) ≡ None → Has e.0
       asked_operand_has e s bounded h d = operand e bounded (begin_holds ((l e.0).demands scope) _ h) d
@@ -160,7 +160,7 @@ module _ (all functions : List Function) (numbers : Numbers) (names : Names) (st
     told_definitions ds = map {B = Named × Sort × shaped.Look} (λ (d : Definition). (d.name, d.sort, told names d.value)) (map (λ d. d.0) ds)
 
     -- the value of a `let`, behind its definitions
-    let_has : (ds : List ((d : Definition) × Typed d.value)) (v : (e : Expr) × Typed e) (scope : scopes.Names) (sorts : Sorts) → Agrees all functions callable names scope sorts
+    let_has : (ds : List ((d : Definition) × Typed d.value)) (v : (e : Expr) × Typed e) (scope : scopes.Names) (sorts : Sorts) → Agrees all functions callable names scope sorts → HasIndex scope part
         → all_true (map (λ (d : Named × Sort × Bool). d.2) (map {B = Named × Sort × Bool} (λ (d : Definition). (d.name, d.sort, is_bounded d.value)) (map (λ d. d.0) ds))) ≡ true
         → is_bounded v.0 ≡ true
         → first_refusal (definition_demands (asked_definitions ds) scope) ≡ None → first_refusal ((l v.0).demands (bound (defined (asked_definitions ds)) scope)) ≡ None
@@ -168,8 +168,8 @@ module _ (all functions : List Function) (numbers : Numbers) (names : Names) (st
         → first_refusal (demands_of v.0 (inside (here part))) ≡ None
         → (b : basic.Basic) → (l v.0).sort (bound (defined (asked_definitions ds)) scope) ≡ of.Basic b
         → only_type (told names v.0 ∷ []) (fold defines (Some (target sorts)) (told_definitions ds)) ≡ Some b
-    let_has [] v scope sorts agrees ds_bounded bounded h k d e b is = operand scope sorts agrees v bounded k e b is
-    let_has (x ∷ ds) v scope sorts agrees ds_bounded bounded h k d e b is =
+    let_has [] v scope sorts agrees indexed ds_bounded bounded h k d e b is = operand scope sorts agrees indexed v bounded k e b is
+    let_has (x ∷ ds) v scope sorts agrees indexed ds_bounded bounded h k d e b is =
         let bounds = and_parts (is_bounded x.0.value) _ ds_bounded in
         let inner = bind scope x.0.name.name (entry.Local x.0.sort) in
         let own = asked (l x.0.value) x.0.sort scope in
@@ -179,16 +179,16 @@ module _ (all functions : List Function) (numbers : Numbers) (names : Names) (st
         let first = demands_of x.0.value (record (inside (here part)) { part = definition_part x.0.sort (operand_part part) }) in
         let typed_here = by x.0.sort bounds.0 (begin_holds own others h') (begin_holds first _ d) in
         ap (λ (a : Option shaped.Around). only_type (told names v.0 ∷ []) (fold defines a (told_definitions ds)))
-        (ap (λ t. if t then Some (with_name (target sorts) x.0.name.name x.0.sort) else None) typed_here)
+        (ap (λ t. if t then Some (with_name (target sorts) x.0.name.name x.0.sort) else None) (and_from (is_basic x.0.sort ((told names x.0.value).type_in (target sorts))) (not (is_index (subscripts_of part) x.0.name.name)) typed_here (no_index scope part x.0.name.name indexed fresh_name)))
         ∙ let_has ds v inner (sorts ++ (x.0.name.name, x.0.sort) ∷ []) (agrees_inside all functions callable names scope sorts agrees x.0.name.name x.0.sort fresh_name)
-        bounds.1 bounded (rest_holds own others h') k (rest_holds first _ d) e b is
+        (has_behind scope part x.0.name.name (entry.Local x.0.sort) indexed) bounds.1 bounded (rest_holds own others h') k (rest_holds first _ d) e b is
       where
         by : (s : Sort) → is_bounded x.0.value ≡ true → first_refusal (asked (l x.0.value) s scope) ≡ None
             → first_refusal (demands_of x.0.value (record (inside (here part)) { part = definition_part s (operand_part part) })) ≡ None
             → shaped.is_basic s ((told names x.0.value).type_in (target sorts)) ≡ true
         by (of.Basic c) bound_here asked_here demanded =
             is_of_itself c _ (typed.asked_has all (node.type_told all names scope (target sorts)) scope x.0.value c
-            (operand scope sorts agrees (x.0.value, x.1) bound_here (begin_holds ((l x.0.value).demands scope) _ asked_here) demanded) asked_here)
+            (operand scope sorts agrees indexed (x.0.value, x.1) bound_here (begin_holds ((l x.0.value).demands scope) _ asked_here) demanded) asked_here)
         by (of.Array c) bound_here asked_here demanded = absurd (never_defined x.0.value demanded)
 
   -- ---- all forms
@@ -198,24 +198,24 @@ module _ (all functions : List Function) (numbers : Numbers) (names : Names) (st
   demands_first e false scope h = begin_holds ((l e).demands scope) _ h
 
   step : (e : Expr) (y : Proved Typed) → e.node ≡ roll-Node (without Typed y) → Typed e
-  step e (Node-F.Number v) is scope sorts part agrees stands bounded h d apart = node.number_typed all names scope (target part stands sorts) e v is
-  step e (Node-F.Truth v) is scope sorts part agrees stands bounded h d apart = node.truth_typed all names scope (target part stands sorts) e v is
-  step e (Node-F.Error v c) is scope sorts part agrees stands bounded h d apart = node.fault_typed all names scope (target part stands sorts) e v c is
-  step e (Node-F.Name name) is scope sorts part agrees stands bounded h d apart = node.name_typed all names scope (target part stands sorts) functions callable agrees e name is h
-  step e (Node-F.Access name at) is scope sorts part agrees stands bounded h d apart =
+  step e (Node-F.Number v) is scope sorts part agrees stands indexed bounded h d apart = node.number_typed all names scope (target part stands sorts) e v is
+  step e (Node-F.Truth v) is scope sorts part agrees stands indexed bounded h d apart = node.truth_typed all names scope (target part stands sorts) e v is
+  step e (Node-F.Error v c) is scope sorts part agrees stands indexed bounded h d apart = node.fault_typed all names scope (target part stands sorts) e v c is
+  step e (Node-F.Name name) is scope sorts part agrees stands indexed bounded h d apart = node.name_typed all names scope (target part stands sorts) functions callable agrees e name is h
+  step e (Node-F.Access name at) is scope sorts part agrees stands indexed bounded h d apart =
       let kept = kept_at (here part) e (Node-F.Access name at.0) is d in
       let h' = begin_holds ((l at.0).demands scope) _
       (rest_holds (known_array name e.place scope) (asked (l at.0) integer scope) (node.holds_by all names scope (target part stands sorts) e (Node-F.Access name at.0) is h)) in
       let found = accepted numbers names stand all functions callable scope (target part stands sorts) agrees part stands name at.0 (one_holds _ _ kept.subscripts)
       (sym (bounds_at e (Node-F.Access name at.0) is) ∙ bounded) h' in
       node.access_typed all names scope (target part stands sorts) functions callable agrees e name at.0 is h found.0 found.1
-  step e (Node-F.Call name es) is scope sorts part agrees stands bounded h d apart =
+  step e (Node-F.Call name es) is scope sorts part agrees stands indexed bounded h d apart =
       let arguments = map (λ a. a.0) es in
       let kept = kept_at (here part) e (Node-F.Call name arguments) is d in
       node.call_typed all names scope (target part stands sorts) functions callable agrees refl e name arguments is h (one_holds _ _ kept.calls)
-      (λ f many each. all_have part stands scope sorts agrees es (map (λ p. p.sort) f.parameters) (many ∙ sym (length-map f.parameters (λ p. p.sort)))
+      (λ f many each. all_have part stands scope sorts agrees indexed es (map (λ p. p.sort) f.parameters) (many ∙ sym (length-map f.parameters (λ p. p.sort)))
       (sym (bounds_at e (Node-F.Call name arguments) is) ∙ bounded) each kept.inner)
-  step e (Node-F.Chain first rest) is scope sorts part agrees stands bounded h d apart =
+  step e (Node-F.Chain first rest) is scope sorts part agrees stands indexed bounded h d apart =
       let links = map (λ k. k.0) rest in
       let kept = kept_at (here part) e (Node-F.Chain first.0 links) is d in
       let s = chain_sort (map {B = Op × Look} (λ (k : Link). (k.op, l k.operand)) links) in
@@ -225,42 +225,42 @@ module _ (all functions : List Function) (numbers : Numbers) (names : Names) (st
       let others = asked_links s (map {B = Op × Look} (λ (k : Link). (k.op, l k.operand)) links) scope in
       let own = demands_of first.0 (inside (here part)) in
       node.chain_typed all names scope (target part stands sorts) e first.0 links is (ap has_one_level (sym (levels_same links)) ∙ inner.0) h
-      (asked_operand_has part stands scope sorts agrees first s bounds.0 (begin_holds (asked (l first.0) s scope) others h') (begin_holds own _ kept.inner))
-      (links_have part stands scope sorts agrees rest s inner.1 (rest_holds (asked (l first.0) s scope) others h') (rest_holds own _ kept.inner))
-  step e (Node-F.Compare r left right) is scope sorts part agrees stands bounded h d apart =
+      (asked_operand_has part stands scope sorts agrees indexed first s bounds.0 (begin_holds (asked (l first.0) s scope) others h') (begin_holds own _ kept.inner))
+      (links_have part stands scope sorts agrees indexed rest s inner.1 (rest_holds (asked (l first.0) s scope) others h') (rest_holds own _ kept.inner))
+  step e (Node-F.Compare r left right) is scope sorts part agrees stands indexed bounded h d apart =
       let kept = kept_at (here part) e (Node-F.Compare r left.0 right.0) is d in
       let h' = node.holds_by all names scope (target part stands sorts) e (Node-F.Compare r left.0 right.0) is h in
       let first = asked_operand (is_equality r) (l left.0) scope in
       let second = asked (l right.0) (operand_sort (is_equality r) (l left.0) scope) scope in
-      let both = two_have part stands scope sorts agrees left right (sym (bounds_at e (Node-F.Compare r left.0 right.0) is) ∙ bounded)
+      let both = two_have part stands scope sorts agrees indexed left right (sym (bounds_at e (Node-F.Compare r left.0 right.0) is) ∙ bounded)
       (demands_first left.0 (is_equality r) scope (begin_holds first second h')) (begin_holds ((l right.0).demands scope) _ (rest_holds first second h')) kept.inner in
       node.compare_typed all names scope (target part stands sorts) e r left.0 right.0 is h both.0 both.1
-  step e (Node-F.Negate of_) is scope sorts part agrees stands bounded h d apart =
+  step e (Node-F.Negate of_) is scope sorts part agrees stands indexed bounded h d apart =
       node.negate_typed all names scope (target part stands sorts) e of_.0 is h
-      (asked_operand_has part stands scope sorts agrees of_ integer (sym (bounds_at e (Node-F.Negate of_.0) is) ∙ bounded)
+      (asked_operand_has part stands scope sorts agrees indexed of_ integer (sym (bounds_at e (Node-F.Negate of_.0) is) ∙ bounded)
       (node.holds_by all names scope (target part stands sorts) e (Node-F.Negate of_.0) is h) (kept_at (here part) e (Node-F.Negate of_.0) is d).inner)
-  step e (Node-F.Invert of_) is scope sorts part agrees stands bounded h d apart =
+  step e (Node-F.Invert of_) is scope sorts part agrees stands indexed bounded h d apart =
       node.invert_typed all names scope (target part stands sorts) e of_.0 is h
-      (asked_operand_has part stands scope sorts agrees of_ boolean (sym (bounds_at e (Node-F.Invert of_.0) is) ∙ bounded)
+      (asked_operand_has part stands scope sorts agrees indexed of_ boolean (sym (bounds_at e (Node-F.Invert of_.0) is) ∙ bounded)
       (node.holds_by all names scope (target part stands sorts) e (Node-F.Invert of_.0) is h) (kept_at (here part) e (Node-F.Invert of_.0) is d).inner)
-  step e (Node-F.Parens of_) is scope sorts part agrees stands bounded h d apart =
+  step e (Node-F.Parens of_) is scope sorts part agrees stands indexed bounded h d apart =
       node.parens_typed all names scope (target part stands sorts) e of_.0 is
-      (of_.1 scope sorts part agrees stands (sym (bounds_at e (Node-F.Parens of_.0) is) ∙ bounded) (node.holds_by all names scope (target part stands sorts) e (Node-F.Parens of_.0) is h)
+      (of_.1 scope sorts part agrees stands indexed (sym (bounds_at e (Node-F.Parens of_.0) is) ∙ bounded) (node.holds_by all names scope (target part stands sorts) e (Node-F.Parens of_.0) is h)
       (kept_at (here part) e (Node-F.Parens of_.0) is d).inner (λ may. ap is_block (sym (form_parens e of_.0 is)) ∙ apart may))
-  step e (Node-F.Test t of_) is scope sorts part agrees stands bounded h d apart =
+  step e (Node-F.Test t of_) is scope sorts part agrees stands indexed bounded h d apart =
       node.test_typed all names scope (target part stands sorts) e t of_.0 is h
-      (operand part stands scope sorts agrees of_ (sym (bounds_at e (Node-F.Test t of_.0) is) ∙ bounded)
+      (operand part stands scope sorts agrees indexed of_ (sym (bounds_at e (Node-F.Test t of_.0) is) ∙ bounded)
       (demands_first of_.0 (is_of_any t) scope (node.holds_by all names scope (target part stands sorts) e (Node-F.Test t of_.0) is h)) (kept_at (here part) e (Node-F.Test t of_.0) is d).inner)
-  step e (Node-F.TwoPlace o left right) is scope sorts part agrees stands bounded h d apart =
+  step e (Node-F.TwoPlace o left right) is scope sorts part agrees stands indexed bounded h d apart =
       let kept = kept_at (here part) e (Node-F.TwoPlace o left.0 right.0) is d in
       let h' = node.holds_by all names scope (target part stands sorts) e (Node-F.TwoPlace o left.0 right.0) is h in
       let bounds = and_parts (is_two_place o) _ (sym (bounds_at e (Node-F.TwoPlace o left.0 right.0) is) ∙ bounded) in
       let first = asked (l left.0) integer scope in
       let second = asked (l right.0) integer scope in
-      let both = two_have part stands scope sorts agrees left right bounds.1
+      let both = two_have part stands scope sorts agrees indexed left right bounds.1
       (begin_holds ((l left.0).demands scope) _ (begin_holds first second h')) (begin_holds ((l right.0).demands scope) _ (rest_holds first second h')) kept.inner in
       node.two_place_typed all names scope (target part stands sorts) e o left.0 right.0 is bounds.0 h both.0 both.1
-  step e (Node-F.If arms last) is scope sorts part agrees stands bounded h d apart =
+  step e (Node-F.If arms last) is scope sorts part agrees stands indexed bounded h d apart =
       let plain_arms = map (λ a. a.0) arms in
       let kept = kept_at (here part) e (Node-F.If plain_arms last.0) is d in
       let h' = node.holds_by all names scope (target part stands sorts) e (Node-F.If plain_arms last.0) is h in
@@ -271,15 +271,15 @@ module _ (all functions : List Function) (numbers : Numbers) (names : Names) (st
       let own = flat_map (λ (a : (Expr × shape.Look) × (Expr × shape.Look)). a.0.1 (inside (here part)) ++ a.1.1 (inside (here part)))
       (map {B = (Expr × shape.Look) × (Expr × shape.Look)} (λ (a : Arm). ((a.test, demands_of a.test), (a.value, demands_of a.value))) plain_arms) in
       node.if_typed all names scope (target part stands sorts) e plain_arms last.0 is h
-      (arms_have part stands scope sorts agrees arms s bounds.0 (begin_holds (asked_arms s asked_of scope) (asked (l last.0) s scope) h') (begin_holds own _ kept.inner))
-      (asked_operand_has part stands scope sorts agrees last s bounds.1 (rest_holds (asked_arms s asked_of scope) (asked (l last.0) s scope) h') (rest_holds own _ kept.inner))
-  step e (Node-F.Let ds []) is scope sorts part agrees stands bounded h d apart =
+      (arms_have part stands scope sorts agrees indexed arms s bounds.0 (begin_holds (asked_arms s asked_of scope) (asked (l last.0) s scope) h') (begin_holds own _ kept.inner))
+      (asked_operand_has part stands scope sorts agrees indexed last s bounds.1 (rest_holds (asked_arms s asked_of scope) (asked (l last.0) s scope) h') (rest_holds own _ kept.inner))
+  step e (Node-F.Let ds []) is scope sorts part agrees stands indexed bounded h d apart =
       let h' = node.holds_by all names scope (target part stands sorts) e (Node-F.Let (map (λ x. x.0) ds) []) is h in
       absurd (cc)
-  step e (Node-F.Let ds (v ∷ w ∷ vs)) is scope sorts part agrees stands bounded h d apart =
+  step e (Node-F.Let ds (v ∷ w ∷ vs)) is scope sorts part agrees stands indexed bounded h d apart =
       let h' = node.holds_by all names scope (target part stands sorts) e (Node-F.Let (map (λ x. x.0) ds) (map (λ x. x.0) (v ∷ w ∷ vs))) is h in
       absurd (cc)
-  step e (Node-F.Let ds (v ∷ [])) is scope sorts part agrees stands bounded h d apart =
+  step e (Node-F.Let ds (v ∷ [])) is scope sorts part agrees stands indexed bounded h d apart =
       let x = Node-F.Let (map (λ x. x.0) ds) (v.0 ∷ []) in
       let kept = kept_at (here part) e x is d in
       let h' = node.holds_by all names scope (target part stands sorts) e x is h in
@@ -290,23 +290,23 @@ module _ (all functions : List Function) (numbers : Numbers) (names : Names) (st
       let named = definition_demands (asked_definitions part stands ds) scope in
       let value = (l v.0).demands (bound (defined (asked_definitions part stands ds)) scope) in
       node.has_by all names scope (target part stands sorts) e x is (λ b at.
-      let_has part stands ds v scope sorts agrees bounds.0 (and_parts (is_bounded v.0) true bounds.1).0 (begin_holds named value h') (rest_holds named value h')
+      let_has part stands ds v scope sorts agrees indexed bounds.0 (and_parts (is_bounded v.0) true bounds.1).0 (begin_holds named value h') (rest_holds named value h')
       (begin_holds own _ kept.inner) (begin_holds (demands_of v.0 (inside (here part))) [] (rest_holds own _ kept.inner)) b at)
-  step e (Node-F.Construct index low high elem) is scope sorts part agrees stands bounded h d apart =
+  step e (Node-F.Construct index low high elem) is scope sorts part agrees stands indexed bounded h d apart =
       node.has_by all names scope (target part stands sorts) e (Node-F.Construct index low.0 high.0 elem.0) is (λ b at. absurd (no_scalar _ b at))
-  step e (Node-F.Fold index low high o elem) is scope sorts part agrees stands bounded h d apart =
+  step e (Node-F.Fold index low high o elem) is scope sorts part agrees stands indexed bounded h d apart =
       let x = Node-F.Fold index low.0 high.0 o elem.0 in
       let block = apart (one_holds _ _ (kept_at (here part) e x is d).blocks) in
       let same : is_block (form e) ≡ true = ap is_block (form_plain e x is (λ of q. cc)) in
       absurd (cc)
-  step e (Node-F.For ds asked_test assigns last) is scope sorts part agrees stands bounded h d apart =
+  step e (Node-F.For ds asked_test assigns last) is scope sorts part agrees stands indexed bounded h d apart =
       let x = Node-F.For (map (λ a. a.0) ds) asked_test.0 (map (λ a. a.0) assigns) last.0 in
       let block = apart (one_holds _ _ (kept_at (here part) e x is d).blocks) in
       let same : is_block (form e) ≡ true = ap is_block (form_plain e x is (λ of q. cc)) in
       absurd (cc)
-  step e (Node-F.Array at value) is scope sorts part agrees stands bounded h d apart =
+  step e (Node-F.Array at value) is scope sorts part agrees stands indexed bounded h d apart =
       node.has_by all names scope (target part stands sorts) e (Node-F.Array at.0 value.0) is (λ b at. absurd (no_scalar _ b at))
-  step e (Node-F.Update name at value) is scope sorts part agrees stands bounded h d apart =
+  step e (Node-F.Update name at value) is scope sorts part agrees stands indexed bounded h d apart =
       let x = Node-F.Update name at.0 value.0 in
       let h' = node.holds_by all names scope (target part stands sorts) e x is h in
       let array = head_holds (types.demand (is_array (value_sort (scope name))) (WrongType e.place)) []
