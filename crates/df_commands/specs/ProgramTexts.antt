@@ -22,7 +22,7 @@ use Rattle.df_shape.specs.Answers.{IsShaped}
 use Rattle.df_shape.specs.Shaped.{shaped}
 use Rattle.df_shape.specs.Sources.{demands as form_demands}
 use Rattle.df_inline.specs.declared.size.Size.{Size}
-use Rattle.df_inline.specs.Inlined.{inlined}
+use Rattle.df_flattened.specs.Flattened.{flattened}
 use Rattle.df_inline.specs.Sizes.{piped_size}
 use Rattle.df_commands.specs.Lines.{refusal}
 use Rattle.df_commands.specs.Texts.{and_word}
@@ -178,5 +178,5 @@ ReadsBlocks tree (Ok piped) = IsShaped tree piped
 ReadsBlocks tree (Err line) = FailsForm tree line
 
 abbrev pub ReadsFlat : Piped → Result Flat (List ℕ) → Type 0
-ReadsFlat piped (Ok flat) = (flat ≡ inlined piped) × IsSmall (piped_size piped)
+ReadsFlat piped (Ok flat) = (flat ≡ flattened piped) × IsSmall (piped_size piped)
 ReadsFlat piped (Err line) = IsOver (piped_size piped) line
