@@ -4,4 +4,6 @@ pub mod Deeper
 pub mod Firsts
 pub mod Groups
 pub mod Levels
+pub mod Loops
+pub mod Signatures
 pub mod Steps

@@ -29,3 +29,11 @@ pub behind_last : {A B : Type 0} (a : B) (inner : Outcome Token A)
     → and_then {B = A} (and_then {B = B × A} inner (λ b last. Found (a, b) last)) (λ p rest. Found p.1 rest) ≡ inner
 behind_last a (Found b last) = refl
 behind_last a (Failed x last) = refl
+
+-- a line behind two tokens that were found
+pub behind_twice : {A B C : Type 0} (a : B) (b : C) (inner : Outcome Token A)
+    → and_then {B = A} (and_then {B = B × A} (and_then {B = A} (and_then {B = C × A} inner (λ x last. Found (b, x) last)) (λ p rest. Found p.1 rest)) (λ x last. Found (a, x) last))
+    (λ p rest. Found p.1 rest)
+    ≡ inner
+behind_twice a b (Found x last) = refl
+behind_twice a b (Failed x last) = refl

@@ -1,5 +1,5 @@
 -- Parts of lines that are read turn by turn or twice.
-use Rattle.df_forms.specs.Form.{again}
+use Rattle.df_forms.specs.Form.{row, again}
 use Rattle.df_syntax.specs.declared.word.Reserved.TheVariants as r
 use Rattle.df_syntax.specs.declared.symbol.Symbol.TheVariants as s
 use Rattle.df_syntax.specs.declared.tree.Named.{Named}
@@ -10,7 +10,7 @@ use Rattle.df_syntax.specs.declared.tree.Definition.{Definition}
 use Rattle.df_syntax.specs.declared.tree.Assign.{Assign}
 use Rattle.df_syntax.specs.declared.tree.Parameter.{Parameter}
 use Rattle.df_syntax.specs.Grammar as g
-use Rattle.df_syntax.specs.Grammar.{Line, symbol, word, behind}
+use Rattle.df_syntax.specs.Grammar.{Line, symbol, word, behind, before, in_parens}
 use Rattle.std.specs.Prelude.{List}
 
 -- "," expr
@@ -29,6 +29,18 @@ next_arm = behind (word r.ElseIf) g.arm
 unfoldable pub next_assign : Line Assign
 next_assign = behind (symbol s.Semicolon) g.assign
 
+-- "do" "if" expr
+unfoldable pub loop_test : Line Expr
+loop_test = behind (word r.Do) (behind (word r.If) again)
+
+-- "then" "iter" assign { ";" assign } "enditer"
+unfoldable pub loop_turn : Line (List Assign)
+loop_turn = behind (word r.Then) (behind (word r.Iter) (before g.assigns (word r.EndIter)))
+
+-- "else" expr "endif" "endfor"
+unfoldable pub loop_last : Line Expr
+loop_last = behind (word r.Else) (before again (behind (word r.EndIf) (word r.EndFor)))
+
 -- "," name
 unfoldable pub next_name : Line Named
 next_name = behind (symbol s.Comma) g.bound
@@ -40,3 +52,7 @@ next_group = behind (symbol s.Semicolon) g.group
 -- "," type
 unfoldable pub next_type : Line Sort
 next_type = behind (symbol s.Comma) g.sort
+
+-- "(" [ params ] "returns" type { "," type } ")"
+unfoldable pub signature : Line (List Parameter × List Sort)
+signature = in_parens (row g.declared (behind (word r.Returns) g.results))

@@ -1,5 +1,5 @@
 //! Expressions with words of their own: `let`, `if`, `forall` and `for`, and what stands in them.
-ghost use Rattle.std.specs.Prelude.{◌≡◌, ◌<◌};
+ghost use Rattle.std.specs.Prelude.{◌≡◌, ◌<◌, OnOk};
 ghost use Rattle.df_syntax.specs.Grammar as line;
 ghost use Rattle.df_syntax.specs.Lines as read;
 ghost use Rattle.df_syntax.specs.Reading.{reads};
@@ -286,6 +286,43 @@ impl<F: Fn(Global, &mut Cursor<'_>, usize) -> Result<Expr, ParseError>> Descent<
         Ok(all)
     }
 
+    /// What is tested before each turn of a loop.
+    pub fn loop_test(&self, tokens: &mut Cursor<'_>) -> Result<Expr, ParseError>
+        requires { Nests self.now.depth (F.pre self.now.expr) (F.post self.now.expr) }
+        ensures reads { Reads (reads self.now.depth 1 part.loop_test tokens.old.rest.now) tokens.old.rest.now result tokens.new.rest.now }
+        ensures room { OnOk result (1 < self.now.depth) }
+    {
+        tokens.take_word(Reserved::Do)?;
+        tokens.open_word(Reserved::If, 1, self.depth)?;
+        self.again(tokens, 2)
+    }
+
+    /// A turn of a loop.
+    pub fn loop_turn(&self, tokens: &mut Cursor<'_>) -> Result<Items<Assign>, ParseError>
+        requires nests { Nests self.now.depth (F.pre self.now.expr) (F.post self.now.expr) }
+        requires inside { 1 < self.now.depth }
+        ensures { Reads (reads self.now.depth 2 part.loop_turn tokens.old.rest.now) tokens.old.rest.now result tokens.new.rest.now }
+    {
+        tokens.take_word(Reserved::Then)?;
+        tokens.take_word(Reserved::Iter)?;
+        let assigns = self.assigns(tokens)?;
+        tokens.take_word(Reserved::EndIter)?;
+        Ok(assigns)
+    }
+
+    /// The value of a loop where its test fails, and its end.
+    pub fn loop_last(&self, tokens: &mut Cursor<'_>) -> Result<Expr, ParseError>
+        requires nests { Nests self.now.depth (F.pre self.now.expr) (F.post self.now.expr) }
+        requires inside { 1 < self.now.depth }
+        ensures { Reads (reads self.now.depth 2 part.loop_last tokens.old.rest.now) tokens.old.rest.now result tokens.new.rest.now }
+    {
+        tokens.take_word(Reserved::Else)?;
+        let last = self.again(tokens, 2)?;
+        tokens.take_word(Reserved::EndIf)?;
+        tokens.take_word(Reserved::EndFor)?;
+        Ok(last)
+    }
+
     /// A `for`.
     pub fn for_loop(&self, tokens: &mut Cursor<'_>) -> Result<Expr, ParseError>
         requires { Nests self.now.depth (F.pre self.now.expr) (F.post self.now.expr) }
@@ -293,17 +330,9 @@ impl<F: Fn(Global, &mut Cursor<'_>, usize) -> Result<Expr, ParseError>> Descent<
     {
         let token = tokens.open_word(Reserved::For, 0, self.depth)?;
         let definitions = self.definitions(tokens)?;
-        tokens.take_word(Reserved::Do)?;
-        tokens.open_word(Reserved::If, 1, self.depth)?;
-        let test = self.again(tokens, 2)?;
-        tokens.take_word(Reserved::Then)?;
-        tokens.take_word(Reserved::Iter)?;
-        let assigns = self.assigns(tokens)?;
-        tokens.take_word(Reserved::EndIter)?;
-        tokens.take_word(Reserved::Else)?;
-        let last = self.again(tokens, 2)?;
-        tokens.take_word(Reserved::EndIf)?;
-        tokens.take_word(Reserved::EndFor)?;
+        let test = self.loop_test(tokens)?;
+        let assigns = self.loop_turn(tokens)?;
+        let last = self.loop_last(tokens)?;
         let made = Node::For {
             definitions,
             test,

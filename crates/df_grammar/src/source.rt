@@ -130,6 +130,21 @@ impl<F> Descent<F> {
         }
         Ok(all)
     }
+
+    /// The parameters of a function, and the types of its results.
+    pub fn signature(
+        &self,
+        tokens: &mut Cursor<'_>,
+    ) -> Result<(Items<Parameter>, Items<Sort>), ParseError>
+        ensures { Reads (reads self.now.depth 1 part.signature tokens.old.rest.now) tokens.old.rest.now result tokens.new.rest.now }
+    {
+        tokens.open_symbol(Symbol::LeftParen, 1, self.depth)?;
+        let parameters = self.declared(tokens)?;
+        tokens.take_word(Reserved::Returns)?;
+        let results = self.results(tokens)?;
+        tokens.take_symbol(Symbol::RightParen)?;
+        Ok((parameters, results))
+    }
 }
 
 impl<F: Fn(Global, &mut Cursor<'_>, usize) -> Result<Expr, ParseError>> Descent<F> {
@@ -196,11 +211,7 @@ impl<F: Fn(Global, &mut Cursor<'_>, usize) -> Result<Expr, ParseError>> Descent<
     {
         tokens.take_word(Reserved::Function)?;
         let name = self.bound(tokens)?;
-        tokens.open_symbol(Symbol::LeftParen, 1, self.depth)?;
-        let parameters = self.declared(tokens)?;
-        tokens.take_word(Reserved::Returns)?;
-        let results = self.results(tokens)?;
-        tokens.take_symbol(Symbol::RightParen)?;
+        let (parameters, results) = self.signature(tokens)?;
         let values = self.exprs(tokens)?;
         tokens.take_word(Reserved::EndFun)?;
         Ok(Function {
