@@ -6,3 +6,4 @@ pub mod Labels
 pub mod LabelResults
 pub mod Results
 pub mod Following
+pub mod EventCounts

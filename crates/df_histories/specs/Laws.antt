@@ -10,7 +10,7 @@ use Rattle.df_histories.specs.Reached.{AgreesWith}
 use Rattle.df_cells.specs.WellFormed.{WellFormed}
 use Rattle.df_labels.specs.Histories.{Histories, took, IsPrefix, Comparable, Consistent, Meets}
 use Rattle.df_machine.specs.Events.{chosen_event}
-use Rattle.df_machine.specs.Runs.{after, IsClash}
+use Rattle.df_machine.specs.Runs.{after, events, IsClash}
 use Rattle.df_histories.specs.Traces.{Traced, histories}
 
 -- no event is a clash
@@ -22,6 +22,11 @@ NeverClashes = (cells : List Cell) (inputs : List (List Value)) (choices : List 
 abbrev pub IsDeterminate : Type 0
 IsDeterminate = (cells : List Cell) (inputs : List (List Value)) (choices others : List ℕ) (k : ℕ) → WellFormed cells
     → Comparable (get_or (after cells inputs choices).results k []) (get_or (after cells inputs others).results k [])
+
+-- equal states that two lists of choices lead to come after equally many events
+abbrev pub CountsEvents : Type 0
+CountsEvents = (cells : List Cell) (inputs : List (List Value)) (choices others : List ℕ) → WellFormed cells
+    → after cells inputs choices ≡ after cells inputs others → events cells inputs choices ≡ events cells inputs others
 
 -- what each cell takes in a run, and any histories that obey the equations of the arcs, agree
 abbrev pub FollowsEquations : Type 0

@@ -1,5 +1,5 @@
 //! What holds of the histories of every run of well-formed cells, for all inputs and all choices.
-ghost use Rattle.df_histories.specs.Laws.{NeverClashes, IsDeterminate, FollowsEquations, AccountsForValues, FollowsHistories, ResultsFollowHistories, FollowsLabels};
+ghost use Rattle.df_histories.specs.Laws.{NeverClashes, IsDeterminate, CountsEvents, FollowsEquations, AccountsForValues, FollowsHistories, ResultsFollowHistories, FollowsLabels};
 
 /// No operand ever comes to a place that is not empty.
 pub fn never_clashes()
@@ -9,6 +9,11 @@ pub fn never_clashes()
 /// The results do not depend on the choices, as far as they have come.
 pub fn is_determinate()
     ensures { IsDeterminate }
+{}
+
+/// A state tells how many events led to it from the start, whatever the choices were.
+pub fn counts_events()
+    ensures { CountsEvents }
 {}
 
 /// A run agrees with any histories that obey the equations of the arcs.
