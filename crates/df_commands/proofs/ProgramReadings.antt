@@ -12,7 +12,7 @@ use Rattle.df_syntax.specs.Tokens.{Splits, FirstBad, LexFault}
 use Rattle.df_syntax.specs.Refusals.{IsSource, Answer, source_of, wrong_at, unsupported_at, too_deep_at, IsAnswer}
 use Rattle.df_syntax.specs.Demands.{first_refusal}
 use Rattle.df_syntax.specs.declared.piped.Piped.{Piped}
-use Rattle.df_syntax.specs.declared.piped.Flat.{Flat}
+use Rattle.df_core.specs.declared.flat.Flat.{Flat}
 use Rattle.df_types.specs.Sources.{demands}
 use Rattle.df_types.specs.declared.answers.CheckAnswer.{CheckAnswer}
 use Rattle.df_shape.specs.Answers.{IsShaped}

@@ -13,19 +13,21 @@ use Rattle.df_values.specs.Inputs.{AreValid, declared, input_length}
 use Rattle.df_values.specs.declared.values.Value.{Value}
 use Rattle.df_cells.specs.Cells.{declaration_of}
 use Rattle.df_cells.specs.declared.cells.InputDecl.{InputDecl}
-use Rattle.df_inline.specs.Inlined.{body_inlined, block_inlined, expr_inlined, replacement, inlined}
+use Rattle.df_core.specs.Meaning.{flat_mean}
+use Rattle.df_core.specs.Within.{HaveRanges}
+use Rattle.df_core.specs.declared.flat.Flat.{Flat}
+use Rattle.df_flattened.specs.Flattened.{flattened}
+use Rattle.df_flattened.specs.Law.{LoweringKeepsTheMeaning, LoweredProgramsAreFlat}
 use Rattle.df_iotext.specs.Inputs.{HaveOwnNames}
 use Rattle.df_shape.proofs.MeaningKept.{inputs_are, meaning_kept}
 use Rattle.df_shape.specs.Shaped.{shaped}
-use Rattle.df_syntax.specs.BlockMeaning.{mean, flat_mean}
 use Rattle.df_syntax.specs.FreshNames.{Taken, also, is_new, parameters_fresh, function_fresh, declared_names, names_are_new}
 use Rattle.df_syntax.specs.SourceMeaning.{input_of, inputs_of, bound_value, main_inputs, source_inputs, source_mean}
 use Rattle.df_syntax.specs.SourceForms.{Constants, constants_of}
-use Rattle.df_syntax.specs.WellShaped.{HasRange, HaveRanges}
+use Rattle.df_syntax.specs.WellShaped.{IsPiped}
 use Rattle.df_syntax.specs.declared.piped.Block.{Block}
 use Rattle.df_syntax.specs.declared.piped.Body.{Body}
 use Rattle.df_syntax.specs.declared.piped.Body.TheVariants as body
-use Rattle.df_syntax.specs.declared.piped.Flat.{Flat}
 use Rattle.df_values.specs.declared.inputs.Input.{Input}
 use Rattle.df_syntax.specs.declared.piped.Piped.{Piped}
 use Rattle.df_syntax.specs.declared.program.Function.{Function}
@@ -38,21 +40,6 @@ use Rattle.df_syntax.specs.declared.tree.Sort.TheVariants as of
 use Rattle.df_commands.specs.Meanings.{decls_by}
 use Rattle.df_commands.specs.ProgramTexts.{IsAccepted}
 use Rattle.df_commands.specs.Ready.{IsFlatOf}
-
--- ---- ranges
-
-body_range : (inline : Expr → Expr) (b : Body) → HasRange b → HasRange (body_inlined inline b)
-body_range inline (body.Construct index lo n elem) has = has
-body_range inline (body.Fold index op lo n elem) has = has
-body_range inline (body.Recur index array lo n first elem) has = has
-body_range inline (body.Scalar expr) has = has
-
--- the ranges of blocks stay as they are where calls are replaced
-pub ranges_kept : (p : Piped) → HaveRanges p.blocks → HaveRanges (inlined p).blocks
-ranges_kept p have =
-    let inline : Expr → Expr = expr_inlined (replacement (reverse p.functions)) in
-    All-map (λ (b : Block). HasRange b.body) (block_inlined inline) p.blocks
-    (All-weaker (λ (b : Block). HasRange b.body) (λ (b : Block). HasRange (body_inlined inline b.body)) (λ b has. body_range inline b.body has) p.blocks have)
 
 -- ---- the names of parameters
 
@@ -157,29 +144,26 @@ declared_by_decls (i ∷ inputs) = ap (λ ds. declaration_of (record { name = i.
 
 -- ---- the program of an accepted source
 
-abbrev pub with_functions : Flat → List Function → Piped
-with_functions flat functions = record { parameters = flat.parameters; blocks = flat.blocks; results = flat.results; functions = functions }
-
--- a program without functions means the same with an empty list of them
-pub without_functions : (flat : Flat) (functions : List Function) (inputs : List (List Value)) → functions ≡ [] → mean (with_functions flat functions) inputs ≡ flat_mean flat inputs
-unfolding mean flat_mean
-without_functions flat functions inputs none = ap (λ fs. mean (with_functions flat fs) inputs) none
-
-abbrev pub InliningKeeps : Type 0
-InliningKeeps = (p : Piped) (inputs : List (List Value)) → flat_mean (inlined p) inputs ≡ mean p inputs
-
-pub meant : InliningKeeps → (tree : Tree) (flat : Flat) (inputs : List (List Value)) → IsFlatOf tree flat → AreValid (declared (source_inputs tree)) inputs
+pub meant : LoweringKeepsTheMeaning → (tree : Tree) (flat : Flat) (inputs : List (List Value)) → IsFlatOf tree flat → AreValid (declared (source_inputs tree)) inputs
     → flat_mean flat inputs ≡ source_mean tree inputs
 meant keeps tree flat inputs is valid =
-    ap (λ f. flat_mean f inputs) is.is ∙ (keeps (shaped tree) inputs ∙ meaning_kept tree is.new is.accepted.formed inputs valid)
+    ap (λ f. flat_mean f inputs) is.is
+    ∙ (keeps (shaped tree) inputs is.piped (subst (λ ps. AreValid (declared ps) inputs) (sym (inputs_are tree is.accepted.formed)) valid)
+    ∙ meaning_kept tree is.new is.accepted.formed inputs valid)
+
+same_parameters : (p : Piped) → (flattened p).parameters ≡ p.parameters
+unfolding flattened
+same_parameters p = refl
 
 pub flat_inputs : (tree : Tree) (flat : Flat) → IsFlatOf tree flat → flat.parameters ≡ source_inputs tree
-flat_inputs tree flat is = ap (λ (f : Flat). f.parameters) is.is ∙ inputs_are tree is.accepted.formed
+flat_inputs tree flat is = ap (λ (f : Flat). f.parameters) is.is ∙ (same_parameters (shaped tree) ∙ inputs_are tree is.accepted.formed)
 
-pub flat_of_source : (tree : Tree) (piped : Piped) (flat : Flat) → IsTrue (names_are_new tree) → IsAccepted tree → piped ≡ shaped tree → HaveRanges piped.blocks → flat ≡ inlined piped → IsFlatOf tree flat
-flat_of_source tree piped flat new accepted shape ranges inline = record {
+pub flat_of_source : LoweredProgramsAreFlat → (tree : Tree) (piped : Piped) (flat : Flat) → IsTrue (names_are_new tree) → IsAccepted tree → IsPiped (shaped tree) → piped ≡ shaped tree → flat ≡ flattened piped
+    → IsFlatOf tree flat
+flat_of_source within tree piped flat new accepted keeps shape lowered = record {
   accepted = accepted;
   new = new;
-  is = inline ∙ ap inlined shape;
-  ranges = subst (λ (f : Flat). HaveRanges f.blocks) (sym inline) (ranges_kept piped ranges);
+  piped = keeps;
+  is = lowered ∙ ap flattened shape;
+  ranges = subst (λ (f : Flat). HaveRanges f.blocks) (sym (lowered ∙ ap flattened shape)) (within (shaped tree) keeps).ranges;
 }

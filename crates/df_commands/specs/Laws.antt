@@ -1,5 +1,9 @@
 -- What is promised of the cells of every program, and of the verdict.
-use Rattle.std.specs.Prelude.{◌≡◌, ℕ, List, Result, Ok, IsTrue, codes}
+use Rattle.std.specs.Prelude.{◌≡◌, ℕ, List, All, Result, Ok, IsTrue, codes}
+use Rattle.df_values.specs.Inputs.{HasExtent}
+use Rattle.df_values.specs.declared.inputs.Input.{Input}
+use Rattle.df_syntax.specs.WellShaped.{HaveRanges, IsPiped}
+use Rattle.df_shape.specs.Shaped.{shaped}
 use Rattle.df_io.specs.Told.{Holds}
 use Rattle.df_cells.specs.declared.cells.Cell.{Cell}
 use Rattle.df_machine.specs.ThreeCells.{three_cells}
@@ -50,6 +54,11 @@ ProgramsHaveOneReading = (text : List ℕ) (one other : Result Tree (List ℕ)) 
 -- there is no text without a reading
 abbrev pub ProgramsHaveReadings : Type 0
 ProgramsHaveReadings = (text : List ℕ) → ¬ ((reading : Result Tree (List ℕ)) → ¬ ReadsProgram text reading)
+
+-- the program in blocks of an accepted source keeps what is left of the demands on it, where its ranges are within their limits
+abbrev pub AcceptedSourcesKeepTheirDemands : Type 0
+AcceptedSourcesKeepTheirDemands = (text : List ℕ) (tree : Tree) → ReadsProgram text (Ok tree) → HaveRanges (shaped tree).blocks
+    → All (λ (p : Input). HasExtent p.extent) (shaped tree).parameters → IsPiped (shaped tree)
 
 -- the names that an accepted source binds in its functions are new where it binds them
 abbrev pub AcceptedSourcesBindNewNames : Type 0

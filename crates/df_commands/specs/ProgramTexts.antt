@@ -14,7 +14,7 @@ use Rattle.df_syntax.specs.Demands.{first_refusal}
 use Rattle.df_syntax.specs.declared.form.Form.{Form}
 use Rattle.df_syntax.specs.declared.form.Form.TheVariants as form
 use Rattle.df_syntax.specs.declared.piped.Piped.{Piped}
-use Rattle.df_syntax.specs.declared.piped.Flat.{Flat}
+use Rattle.df_core.specs.declared.flat.Flat.{Flat}
 use Rattle.df_types.specs.Sources.{demands}
 use Rattle.df_shape.specs.declared.answers.ShapeAnswer.{ShapeAnswer}
 use Rattle.df_shape.specs.declared.answers.ShapeAnswer.TheVariants as shape
@@ -100,7 +100,7 @@ pub record FailsForm (tree : Program) (line : List ℕ) : Type 0 where
 
 -- ---- sizes
 
--- of the program in blocks, with each call replaced by the body of its function
+-- of the program in blocks, as a flat program
 abbrev pub most_nodes : ℕ
 most_nodes = 20_000
 

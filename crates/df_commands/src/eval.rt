@@ -1,8 +1,8 @@
 //! `eval`: it is told what a source means under its inputs.
 ghost use Rattle.std.specs.Prelude.{◌≡◌, ◌≤◌, length, IfOk, IsErrOf};
-ghost use Rattle.df_syntax.specs.BlockMeaning.{flat_mean};
+ghost use Rattle.df_core.specs.Meaning.{flat_mean};
+ghost use Rattle.df_core.specs.Within.{HaveRanges};
 ghost use Rattle.df_syntax.specs.SourceMeaning.{source_inputs};
-ghost use Rattle.df_syntax.specs.WellShaped.{HaveRanges};
 ghost use Rattle.df_values.specs.Inputs.{AreValid, input_length, declared};
 ghost use Rattle.df_commands.specs.Meanings.{decls_by};
 ghost use Rattle.df_commands.specs.Ready.{IsFlatOf};
@@ -14,14 +14,13 @@ use crate::programs::{Source, judge_program};
 use crate::runs::judge_input;
 use crate::stop::Stop;
 use df_cells::cells::InputDecl;
-use df_inline::laws::inlining_keeps_the_meaning;
+use df_core::evaluator::evaluate;
+use df_core::flat::Flat;
+use df_flattened::laws::lowering_keeps_the_meaning;
 use df_iotext::printing::print_outputs;
-use df_meaning::eval as evaluate;
-use df_syntax::piped::{Flat, Piped};
 use df_values::inputs::Input;
 use df_values::memory::Memory;
 use df_values::streams::Streams;
-use sqlite_items::Items;
 use std::alloc::Global;
 
 // As many results as can be numbered.
@@ -75,33 +74,27 @@ fn judged(alloc: Global, source: &[u8], input: &[u8]) -> Result<Evaluated, Stop>
     Ok(Evaluated { source, inputs })
 }
 
-// The meaning of a program without functions under some inputs. The only error is want of memory, and more results than can
-// be numbered count as that.
-fn meaning_of(alloc: Global, flat: Flat, inputs: &Streams) -> Result<Streams, Memory>
-    requires { HaveRanges flat.blocks }
-    ensures { IfOk result (λ results. results.lists ≡ flat_mean flat inputs.now.lists) }
+// The meaning of a flat program under some inputs. The only error is want of memory, and more results than can be numbered
+// count as that.
+fn meaning_of(alloc: Global, flat: &Flat, inputs: &Streams) -> Result<Streams, Memory>
+    requires { HaveRanges flat.now.blocks }
+    ensures { IfOk result (λ results. results.lists ≡ flat_mean flat.now inputs.now.lists) }
 {
     if flat.results.as_slice().len() > MOST_RESULTS {
         return Err(Memory);
     }
-    let piped = Piped {
-        parameters: flat.parameters,
-        blocks: flat.blocks,
-        results: flat.results,
-        functions: Items::new(alloc),
-    };
-    evaluate(alloc, &piped, inputs)
+    evaluate(alloc, flat, inputs)
 }
 
-/// Tells what the source means under the inputs, by its program without calls.
+/// Tells what the source means under the inputs, by its flat program.
 pub fn eval<'a>(alloc: Global, source: &[u8], input: &[u8]) -> Result<Plan<'a>, Stop>
     requires source { length source.now ≤ 4294967294 }
     requires input { length input.now ≤ 4294967294 }
     ensures settles { Settles (JudgesEval source.now input.now) result }
     ensures no_fault { IsErrOf result Stop.ReadFault → ⊥ }
 {
-    inlining_keeps_the_meaning();
+    lowering_keeps_the_meaning();
     let it = judged(alloc, source, input)?;
-    let results = meaning_of(alloc, it.source.flat, &it.inputs)?;
+    let results = meaning_of(alloc, &it.source.flat, &it.inputs)?;
     Ok(Plan::of_text(alloc, print_outputs(alloc, &results)?, true))
 }

@@ -1,6 +1,7 @@
 //! What follows from the definitions of the verdict alone: each call does nothing, and its contract is a law.
-ghost use Rattle.df_commands.specs.Laws.{AcceptedSourcesBindNewNames, CellFilesHaveOneReading, CellFilesHaveReadings, DualFilesHaveOneReading, DualFilesHaveReadings, HasOneVerdict, HasSomeVerdict, ProgramsHaveOneReading, ProgramsHaveReadings};
+ghost use Rattle.df_commands.specs.Laws.{AcceptedSourcesBindNewNames, AcceptedSourcesKeepTheirDemands, CellFilesHaveOneReading, CellFilesHaveReadings, DualFilesHaveOneReading, DualFilesHaveReadings, HasOneVerdict, HasSomeVerdict, ProgramsHaveOneReading, ProgramsHaveReadings};
 
+use df_accepted::laws::accepted_sources_are_piped;
 use df_celltext::laws::{has_one_first_wrong_line, is_read_or_wrong, text_tells_the_cells};
 use df_dual_check::laws::{
     certified_dont_fail, fails_once as flow_fails_once, has_one_wrong_line, others_fail,
@@ -70,6 +71,14 @@ pub fn programs_have_readings()
 {
     text_has_tokens_or_a_bad_place();
     tokens_have_some_answer();
+}
+
+/// The program in blocks of an accepted source keeps what is left of the demands on it.
+pub fn accepted_sources_keep_their_demands()
+    ensures { AcceptedSourcesKeepTheirDemands }
+{
+    trees_are_well_built();
+    accepted_sources_are_piped();
 }
 
 /// The names that an accepted source binds in its functions are new where it binds them.

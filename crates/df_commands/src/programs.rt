@@ -1,19 +1,23 @@
 //! The program of a source, if it is accepted.
-ghost use Rattle.std.specs.Prelude.{◌≤◌, length, IfOk};
+ghost use Rattle.std.specs.Prelude.{◌≤◌, length, All, IfOk};
+ghost use Rattle.df_values.specs.Inputs.{HasExtent};
+ghost use Rattle.df_values.specs.declared.inputs.Input.{Input};
 ghost use Rattle.df_syntax.specs.WellShaped.{HaveRanges};
 ghost use Rattle.df_commands.specs.ProgramTexts.{ReadsTokens, ReadsTree, MeetsDemands, ReadsBlocks, ReadsFlat, ReadsProgram};
 ghost use Rattle.df_commands.specs.Ready.{IsFlatOf};
 ghost use Rattle.df_commands.specs.Judged.{GivesMeaning};
 
-use crate::laws::accepted_sources_bind_new_names;
+use crate::laws::{accepted_sources_bind_new_names, accepted_sources_keep_their_demands};
 use crate::refusals::refused;
 use crate::source_refusals::{refused_check, refused_parse, refused_place, refused_shape};
 use crate::stop::Stop;
 use df_grammar::parse;
+use df_core::flat::Flat;
+use df_flattened::laws::lowered_programs_are_flat;
 use df_inline::{InlineAnswer, inline};
 use df_lexer::{LexAnswer, lex};
 use df_shape::shape;
-use df_syntax::piped::{Flat, Piped};
+use df_syntax::piped::Piped;
 use df_syntax::program::Program;
 use df_syntax::token::Tokens;
 use df_types::check;
@@ -24,7 +28,7 @@ use std::alloc::Global;
 pub struct Source {
     /// Its tree.
     pub tree: Program,
-    /// Its program in blocks, with each call replaced by the body of its function.
+    /// Its flat program.
     pub flat: Flat,
 }
 
@@ -70,6 +74,7 @@ fn check_tree(alloc: Global, tree: &Program) -> Result<(), Stop>
 fn blocks_of(alloc: Global, tree: &Program) -> Result<Piped, Stop>
     ensures reads { GivesMeaning (λ piped. piped) result (ReadsBlocks tree.now) }
     ensures ranges { IfOk result (λ piped. HaveRanges piped.blocks) }
+    ensures extents { IfOk result (λ piped. All (λ (p : Input). HasExtent p.extent) piped.parameters) }
 {
     match shape(alloc, tree) {
         Ok(piped) => Ok(piped),
@@ -77,7 +82,7 @@ fn blocks_of(alloc: Global, tree: &Program) -> Result<Piped, Stop>
     }
 }
 
-// A program with its calls replaced, if it is small enough.
+// The flat program of a program in blocks, if it is small enough.
 fn flat_of(alloc: Global, piped: &Piped) -> Result<Flat, Stop>
     ensures { GivesMeaning (λ flat. flat) result (ReadsFlat piped.now) }
 {
@@ -96,6 +101,8 @@ pub fn judge_program(alloc: Global, text: &[u8]) -> Result<Source, Stop>
     ensures flat { IfOk result (λ source. IsFlatOf source.tree source.flat) }
 {
     accepted_sources_bind_new_names();
+    accepted_sources_keep_their_demands();
+    lowered_programs_are_flat();
     let tokens = tokens_of(alloc, text)?;
     let tree = tree_of(alloc, &tokens)?;
     check_tree(alloc, &tree)?;

@@ -1,4 +1,10 @@
+use Rattle.std.proofs.Common.{subst}
+use Rattle.std.specs.Prelude.{All}
 use Rattle.std.proofs.lemmas.Result.{err_from_is_err_and}
+use Rattle.df_values.specs.Inputs.{HasExtent}
+use Rattle.df_values.specs.declared.inputs.Input.{Input}
+use Rattle.df_syntax.specs.declared.piped.Piped.{Piped}
+use Rattle.df_syntax.specs.WellShaped.{HaveRanges}
 use Rattle.df_commands.specs.ProgramTexts.{IsTextOfTree}
 use Rattle.df_commands.proofs.ProgramReadings.{no_tokens_read, no_tree_read, demand_fails, form_fails, size_fails, accepted_tree}
 use Rattle.df_commands.proofs.SourcesMeant.{flat_of_source}
@@ -42,6 +48,8 @@ pub returns-clause-flat : goal.returns-clause-flat
 returns-clause-flat c =
     let is : IsTextOfTree c.args.text.now c.in_ok-tree.tree = record { list = c.in_ok-tokens.tokens; tokens = c.in_ok-tokens.ensures; source = c.in_ok-tree.ensures } in
     let accepted = accepted_tree c.in_ok-tree.tree c.in_ok-piped.piped c.in_ok-check_tree.ensures c.in_ok-piped.ensures.reads c.in_ok-flat.ensures.1 in
-    flat_of_source c.in_ok-tree.tree c.in_ok-piped.piped c.in_ok-flat.flat
+    let ranges = subst (λ (p : Piped). HaveRanges p.blocks) c.in_ok-piped.ensures.reads.is c.in_ok-piped.ensures.ranges in
+    let extents = subst (λ (p : Piped). All (λ (i : Input). HasExtent i.extent) p.parameters) c.in_ok-piped.ensures.reads.is c.in_ok-piped.ensures.extents in
+    flat_of_source c.lowered_programs_are_flat.ensures c.in_ok-tree.tree c.in_ok-piped.piped c.in_ok-flat.flat
     (c.accepted_sources_bind_new_names.ensures c.args.text.now c.in_ok-tree.tree (is, accepted))
-    accepted c.in_ok-piped.ensures.reads.is c.in_ok-piped.ensures.ranges c.in_ok-flat.ensures.0
+    accepted (c.accepted_sources_keep_their_demands.ensures c.args.text.now c.in_ok-tree.tree (is, accepted) ranges extents) c.in_ok-piped.ensures.reads.is c.in_ok-flat.ensures.0
