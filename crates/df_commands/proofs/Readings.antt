@@ -10,16 +10,17 @@ use Rattle.df_iotext.specs.Inputs.{ReadsInputs, HaveOwnNames}
 use Rattle.df_iotext.specs.Schedules.{ReadsSchedule}
 use Rattle.df_iotext.specs.Laws.{InputsHaveOneReading, InputsHaveReadings, SchedulesHaveOneReading, SchedulesHaveReadings}
 use Rattle.df_iotext.specs.declared.inputs.InputAnswer.{InputAnswer}
+use Rattle.df_celltext.specs.declared.version.Version.TheVariants.{One, Two}
 use Rattle.df_commands.specs.Laws.{AcceptedSourcesBindNewNames, CellFilesHaveOneReading, CellFilesHaveReadings, DualFilesHaveOneReading, DualFilesHaveReadings, ProgramsHaveOneReading, ProgramsHaveReadings, HasOneVerdict, HasSomeVerdict}
 use Rattle.df_commands.specs.Lines.{refusal}
 use Rattle.df_commands.specs.Meanings.{decls_of, decls_by}
 use Rattle.df_commands.specs.Commands.{Order, texts_of}
 use Rattle.df_commands.specs.declared.command.Command.{Command}
-use Rattle.df_commands.specs.declared.command.Command.TheVariants.{Check, Eval, Go, Run, Verify}
+use Rattle.df_commands.specs.declared.command.Command.TheVariants.{Check, Eval, Go, Run, Verify, Migrate}
 use Rattle.df_commands.specs.ProgramTexts.{ReadsProgram}
 use Rattle.df_commands.specs.Sources.{ReadsSource}
 use Rattle.df_commands.specs.Texts.{input_reason, and_word, ReadsInputText, ReadsScheduleText, ReadsCellFile, ReadsDualFile}
-use Rattle.df_commands.specs.Verdicts.{Verdict, Refused, Accepted, Task, TellRight, TellMeaning, CompileAndRun, RunCells, TellLeast, AfterText, AfterRead, Goes, JudgesInputs, JudgesGo, JudgesRun, JudgesVerify, JudgesEval, JudgesCheck, JudgesTexts, nth, texts_at}
+use Rattle.df_commands.specs.Verdicts.{Verdict, Refused, Accepted, Task, TellRight, TellMeaning, CompileAndRun, RunCells, TellLeast, WriteAnew, AfterText, AfterRead, Goes, JudgesInputs, JudgesGo, JudgesRun, JudgesVerify, JudgesEval, JudgesCheck, JudgesTexts, nth, texts_at}
 use Rattle.df_syntax.specs.SourceMeaning.{source_inputs}
 use Rattle.df_syntax.specs.declared.program.Program.{Program as Tree}
 use Rattle.df_commands.specs.declared.program.Program.{Program}
@@ -115,7 +116,7 @@ one_go one_input one_schedule source input schedule cells dual v w =
 one_file : InputsHaveOneReading → SchedulesHaveOneReading → CellFilesHaveOneReading → (cells input schedule : List ℕ) (v w : Verdict)
     → JudgesRun cells input schedule v → JudgesRun cells input schedule w → v ≡ w
 one_file one_input one_schedule one_cells cells input schedule v w =
-    one_after_text (ReadsCellFile cells) v w (cells_asked input schedule) (one_cells cells)
+    one_after_text (ReadsCellFile Two cells) v w (cells_asked input schedule) (one_cells Two cells)
     (λ list read. one_run one_input one_schedule (inputs_of list) (cells_names list read.1) input schedule (λ inputs choices. RunCells list inputs choices) v w)
 
 -- what is asked once the flow was read, and once the cells were
@@ -127,7 +128,7 @@ dual_asked dual v cells = AfterText (ReadsDualFile cells dual) v (told_of cells 
 
 one_pair : CellFilesHaveOneReading → DualFilesHaveOneReading → (cells dual : List ℕ) (v w : Verdict) → JudgesVerify cells dual v → JudgesVerify cells dual w → v ≡ w
 one_pair one_cells one_dual cells dual v w =
-    one_after_text (ReadsCellFile cells) v w (dual_asked dual) (one_cells cells)
+    one_after_text (ReadsCellFile Two cells) v w (dual_asked dual) (one_cells Two cells)
     (λ list read. one_after_text (ReadsDualFile list dual) v w (told_of list) (λ r s. one_dual list dual r s read.1) (λ flow certified p q. p ∙ sym q))
 
 -- what is asked once the inputs of a source were read, and once the source was
@@ -143,6 +144,10 @@ one_meaning one_input one_program new source input v w =
     (λ tree read. one_after_text (ReadsInputText (decls_by (source_inputs tree)) input) v w (meaning_told tree)
     (one_input_reading one_input (decls_by (source_inputs tree)) (own_names tree (new source tree read)) input) (λ inputs given p q. p ∙ sym q))
 
+-- what is asked once older cells were read
+abbrev anew_asked : List ℕ → Verdict → List Cell → Type 0
+anew_asked name v list = v ≡ Accepted (WriteAnew list name)
+
 one_of_texts : InputsHaveOneReading → SchedulesHaveOneReading → CellFilesHaveOneReading → DualFilesHaveOneReading → ProgramsHaveOneReading → AcceptedSourcesBindNewNames
     → (command : Command) (texts writes : List (List ℕ)) (v w : Verdict) → JudgesTexts command texts writes v → JudgesTexts command texts writes w → v ≡ w
 one_of_texts one_input one_schedule one_cells one_dual one_program new Check texts writes v w =
@@ -152,6 +157,8 @@ one_of_texts one_input one_schedule one_cells one_dual one_program new Go texts 
     one_go one_input one_schedule (nth texts 0) (nth texts 1) (nth texts 2) (nth writes 0) (nth writes 1) v w
 one_of_texts one_input one_schedule one_cells one_dual one_program new Run texts writes v w = one_file one_input one_schedule one_cells (nth texts 0) (nth texts 1) (nth texts 2) v w
 one_of_texts one_input one_schedule one_cells one_dual one_program new Verify texts writes v w = one_pair one_cells one_dual (nth texts 0) (nth texts 1) v w
+one_of_texts one_input one_schedule one_cells one_dual one_program new Migrate texts writes v w =
+    one_after_text (ReadsCellFile One (nth texts 0)) v w (anew_asked (nth writes 0)) (one_cells One (nth texts 0)) (λ list read p q. p ∙ sym q)
 
 pub one_verdict : InputsHaveOneReading → SchedulesHaveOneReading → CellFilesHaveOneReading → DualFilesHaveOneReading → ProgramsHaveOneReading → AcceptedSourcesBindNewNames → HasOneVerdict
 one_verdict one_input one_schedule one_cells one_dual one_program new order holds v w =
@@ -214,11 +221,13 @@ some_of_texts some_input some_schedule some_cells some_dual some_program Go text
     some_after_text (ReadsSource (nth texts 0)) (program_asked (nth texts 1) (nth texts 2) (nth writes 0) (nth writes 1)) (some_source_reading (nth texts 0))
     (λ program read. some_run some_input some_schedule (decls_of program) (nth texts 1) (nth texts 2) (λ inputs choices. CompileAndRun program inputs choices (nth writes 0) (nth writes 1)))
 some_of_texts some_input some_schedule some_cells some_dual some_program Run texts writes =
-    some_after_text (ReadsCellFile (nth texts 0)) (cells_asked (nth texts 1) (nth texts 2)) (some_cells (nth texts 0))
+    some_after_text (ReadsCellFile Two (nth texts 0)) (cells_asked (nth texts 1) (nth texts 2)) (some_cells Two (nth texts 0))
     (λ list read. some_run some_input some_schedule (inputs_of list) (nth texts 1) (nth texts 2) (λ inputs choices. RunCells list inputs choices))
 some_of_texts some_input some_schedule some_cells some_dual some_program Verify texts writes =
-    some_after_text (ReadsCellFile (nth texts 0)) (dual_asked (nth texts 1)) (some_cells (nth texts 0))
+    some_after_text (ReadsCellFile Two (nth texts 0)) (dual_asked (nth texts 1)) (some_cells Two (nth texts 0))
     (λ list read. some_after_text (ReadsDualFile list (nth texts 1)) (told_of list) (some_dual list (nth texts 1) read.1) (λ flow certified none. none (Accepted (TellLeast list)) refl))
+some_of_texts some_input some_schedule some_cells some_dual some_program Migrate texts writes =
+    some_after_text (ReadsCellFile One (nth texts 0)) (anew_asked (nth writes 0)) (some_cells One (nth texts 0)) (λ list read none. none (Accepted (WriteAnew list (nth writes 0))) refl)
 
 pub some_verdict : InputsHaveReadings → SchedulesHaveReadings → CellFilesHaveReadings → DualFilesHaveReadings → ProgramsHaveReadings → HasSomeVerdict
 some_verdict some_input some_schedule some_cells some_dual some_program order holds =

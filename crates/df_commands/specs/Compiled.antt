@@ -19,9 +19,9 @@ use Rattle.df_stages.specs.Skeletons.{arcs}
 use Rattle.df_commands.specs.Effects.{Effect}
 use Rattle.df_syntax.specs.SourceMeaning.{source_mean}
 use Rattle.df_iotext.specs.Printed.{result_lines}
-use Rattle.df_commands.specs.Verdicts.{Task, TellRight, TellMeaning, CompileAndRun, RunCells, TellLeast}
+use Rattle.df_commands.specs.Verdicts.{Task, TellRight, TellMeaning, CompileAndRun, RunCells, TellLeast, WriteAnew}
 use Rattle.df_stages.specs.Balance.{IsBalanced, IsLeast}
-use Rattle.df_commands.specs.Reports.{report_text, least_text}
+use Rattle.df_commands.specs.Reports.{report_text, least_text, migrated_text}
 use Rattle.df_commands.specs.Lines.{line}
 
 -- For all valid inputs and every list of choices, of any length, no event on the way is a clash, and
@@ -65,3 +65,4 @@ MayDo (RunCells cells inputs schedule) effect =
 -- it is told only of cells that are balanced, and whose buffers are least
 MayDo (TellLeast cells) effect =
     IsBalanced cells × IsLeast cells × (effect ≡ record { files = []; text = least_text cells; is_done = true })
+MayDo (WriteAnew cells name) effect = effect ≡ record { files = (name, cell_text cells) ∷ []; text = migrated_text cells; is_done = true }

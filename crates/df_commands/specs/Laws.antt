@@ -7,6 +7,7 @@ use Rattle.df_shape.specs.Shaped.{shaped}
 use Rattle.df_io.specs.Told.{Holds}
 use Rattle.df_cells.specs.declared.cells.Cell.{Cell}
 use Rattle.df_machine.specs.ThreeCells.{three_cells}
+use Rattle.df_celltext.specs.declared.version.Version.{Version}
 use Rattle.df_commands.specs.Compiled.{IsFaithful}
 use Rattle.df_commands.specs.Commands.{Order}
 use Rattle.df_commands.specs.Ready.{IsWithin}
@@ -32,11 +33,11 @@ HasSomeVerdict = (order : Order) (holds : Holds) → ¬ ((v : Verdict) → ¬ Ju
 
 -- the text of a cell file has one reading at most
 abbrev pub CellFilesHaveOneReading : Type 0
-CellFilesHaveOneReading = (text : List ℕ) (one other : Result (List Cell) (List ℕ)) → ReadsCellFile text one → ReadsCellFile text other → one ≡ other
+CellFilesHaveOneReading = (version : Version) (text : List ℕ) (one other : Result (List Cell) (List ℕ)) → ReadsCellFile version text one → ReadsCellFile version text other → one ≡ other
 
 -- there is no text without a reading
 abbrev pub CellFilesHaveReadings : Type 0
-CellFilesHaveReadings = (text : List ℕ) → ¬ ((reading : Result (List Cell) (List ℕ)) → ¬ ReadsCellFile text reading)
+CellFilesHaveReadings = (version : Version) (text : List ℕ) → ¬ ((reading : Result (List Cell) (List ℕ)) → ¬ ReadsCellFile version text reading)
 
 -- the text of a dual file has one reading at most for well-formed cells
 abbrev pub DualFilesHaveOneReading : Type 0

@@ -1,5 +1,5 @@
 -- The text of the report of a run, and what is told of least buffers.
-use Rattle.std.specs.Prelude.{ℕ, List, ◌∷◌, ◌++◌, if◌then◌else◌, not, codes}
+use Rattle.std.specs.Prelude.{ℕ, List, ◌∷◌, ◌++◌, if◌then◌else◌, not, length, codes}
 use Rattle.std.specs.List.{flat_map, count_by}
 use Rattle.std.specs.Fmt.{decimal}
 use Rattle.df_machine.specs.Reports.{Report}
@@ -28,3 +28,7 @@ others cells = count_by (λ cell. not (is_buffer cell.kind)) cells
 unfoldable pub least_text : List Cell → List ℕ
 least_text cells =
     line (codes "verified") ++ (line (codes "skeleton " ++ decimal (others cells)) ++ line (codes "buffers " ++ decimal (buffers cells)))
+
+-- what is told of cells that are written anew
+abbrev pub migrated_text : List Cell → List ℕ
+migrated_text cells = line (codes "migrated " ++ decimal (length cells))

@@ -6,8 +6,9 @@ use Rattle.df_cells.specs.declared.cells.Cell.{Cell}
 use Rattle.df_cells.specs.declared.cells.InputDecl.{InputDecl}
 use Rattle.df_cells.specs.declared.schedules.Schedule.{Schedule}
 use Rattle.df_cells.specs.WellFormed.{WellFormed}
-use Rattle.df_celltext.specs.Writable.{IsTextOf}
-use Rattle.df_celltext.specs.WrongLines.{FirstWrongLine}
+use Rattle.df_celltext.specs.declared.version.Version.{Version}
+use Rattle.df_celltext.specs.Writable.{IsTextIn}
+use Rattle.df_celltext.specs.WrongLines.{FirstWrongLineIn}
 use Rattle.df_iotext.specs.Inputs.{ReadsInputs}
 use Rattle.df_iotext.specs.Schedules.{ReadsSchedule}
 use Rattle.df_iotext.specs.declared.inputs.InputAnswer.{InputAnswer}
@@ -59,24 +60,25 @@ rule_word rule.Loop = codes "loop"
 rule_word rule.Buffer = codes "buffer"
 rule_word rule.Load = codes "load"
 
--- the text is that of no list of cells, and this is its first wrong line
-pub record IsWrongText (text line : List ℕ) : Type 0 where
+-- the text is that of no list of cells in the version, and this is its first wrong line
+pub record IsWrongText (version : Version) (text line : List ℕ) : Type 0 where
   pub number : ℕ
   pub says : line ≡ refusal (codes "BadCellText" ++ and_word (decimal number))
-  pub first : FirstWrongLine text number
+  pub first : FirstWrongLineIn version text number
 
 -- the text is that of cells that are not well-formed: this rule is the first that fails, and this cell the least at which it does
-pub record IsIllFormed (text line : List ℕ) : Type 0 where
+pub record IsIllFormed (version : Version) (text line : List ℕ) : Type 0 where
   pub cells : List Cell
-  pub read : IsTextOf text cells
+  pub read : IsTextIn version text cells
   pub rule : Rule
   pub cell : ℕ
   pub says : line ≡ refusal (codes "BadCells" ++ (and_word (rule_word rule) ++ and_word (decimal cell)))
   pub first : FailsFirst cells rule cell
 
-abbrev pub ReadsCellFile : List ℕ → Result (List Cell) (List ℕ) → Type 0
-ReadsCellFile text (Ok cells) = IsTextOf text cells × WellFormed cells
-ReadsCellFile text (Err line) = IsWrongText text line ⊎ IsIllFormed text line
+-- what is read in a version of the form of cell files
+abbrev pub ReadsCellFile : Version → List ℕ → Result (List Cell) (List ℕ) → Type 0
+ReadsCellFile version text (Ok cells) = IsTextIn version text cells × WellFormed cells
+ReadsCellFile version text (Err line) = IsWrongText version text line ⊎ IsIllFormed version text line
 
 -- ---- dual files
 

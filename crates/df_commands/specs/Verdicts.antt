@@ -7,11 +7,12 @@ use Rattle.df_cells.specs.declared.cells.Cell.{Cell}
 use Rattle.df_cells.specs.declared.cells.InputDecl.{InputDecl}
 use Rattle.df_cells.specs.declared.schedules.Schedule.{Schedule}
 use Rattle.df_cells.specs.Cells.{inputs_of}
+use Rattle.df_celltext.specs.declared.version.Version.TheVariants.{One, Two}
 use Rattle.df_syntax.specs.declared.program.Program.{Program as Tree}
 use Rattle.df_syntax.specs.SourceMeaning.{source_inputs}
 use Rattle.df_commands.specs.declared.program.Program.{Program}
 use Rattle.df_commands.specs.declared.command.Command.{Command}
-use Rattle.df_commands.specs.declared.command.Command.TheVariants.{Check, Eval, Go, Run, Verify}
+use Rattle.df_commands.specs.declared.command.Command.TheVariants.{Check, Eval, Go, Run, Verify, Migrate}
 use Rattle.df_commands.specs.declared.command.Text.{Text}
 use Rattle.df_commands.specs.Commands.{Order, texts_of, label_of, limit_of}
 use Rattle.df_commands.specs.Lines.{refusal}
@@ -21,13 +22,15 @@ use Rattle.df_commands.specs.Sources.{ReadsSource}
 use Rattle.df_commands.specs.Texts.{ReadsInputText, ReadsScheduleText, ReadsCellFile, ReadsDualFile}
 
 -- What the texts of a command ask for, once none of them is refused: that a source is told to be right, that its meaning is told under some inputs, that a program is
--- compiled and its cells are run and written, that cells are run, or that it is told of cells that their buffers are balanced and least.
+-- compiled and its cells are run and written, that cells are run, that it is told of cells that their buffers are balanced and least,
+-- or that cells of an older form are written anew.
 pub data Task : Type 0 where
   TellRight : Task
   TellMeaning : (tree : Tree) (inputs : List (List Value)) → Task
   CompileAndRun : (program : Program) (inputs : List (List Value)) (schedule : Schedule) (cells dual : List ℕ) → Task
   RunCells : (cells : List Cell) (inputs : List (List Value)) (schedule : Schedule) → Task
   TellLeast : (cells : List Cell) → Task
+  WriteAnew : (cells : List Cell) (name : List ℕ) → Task
 
 -- A file to be read isn't there, a text is refused by this line, or the task is to be done.
 pub data Verdict : Type 0 where
@@ -90,7 +93,7 @@ JudgesGo source input schedule cells dual v =
 
 abbrev pub JudgesRun : (cells input schedule : List ℕ) → Verdict → Type 0
 JudgesRun cells input schedule v =
-    AfterText (ReadsCellFile cells) v (λ list.
+    AfterText (ReadsCellFile Two cells) v (λ list.
     JudgesInputs (inputs_of list) input schedule (λ inputs choices. RunCells list inputs choices) v)
 
 abbrev pub JudgesCheck : (source : List ℕ) → Verdict → Type 0
@@ -104,9 +107,12 @@ JudgesEval source input v =
 
 abbrev pub JudgesVerify : (cells dual : List ℕ) → Verdict → Type 0
 JudgesVerify cells dual v =
-    AfterText (ReadsCellFile cells) v (λ list.
+    AfterText (ReadsCellFile Two cells) v (λ list.
     AfterText (ReadsDualFile list dual) v (λ flow.
     v ≡ Accepted (TellLeast list)))
+
+abbrev pub JudgesMigrate : (old : List ℕ) → (cells : List ℕ) → Verdict → Type 0
+JudgesMigrate old cells v = AfterText (ReadsCellFile One old) v (λ list. v ≡ Accepted (WriteAnew list cells))
 
 -- the text, or the name, of this number
 abbrev pub nth : List (List ℕ) → ℕ → List ℕ
@@ -119,6 +125,7 @@ JudgesTexts Eval texts writes v = JudgesEval (nth texts 0) (nth texts 1) v
 JudgesTexts Go texts writes v = JudgesGo (nth texts 0) (nth texts 1) (nth texts 2) (nth writes 0) (nth writes 1) v
 JudgesTexts Run texts writes v = JudgesRun (nth texts 0) (nth texts 1) (nth texts 2) v
 JudgesTexts Verify texts writes v = JudgesVerify (nth texts 0) (nth texts 1) v
+JudgesTexts Migrate texts writes v = JudgesMigrate (nth texts 0) (nth writes 0) v
 
 abbrev pub Judges : Order → Holds → Verdict → Type 0
 Judges order holds v = AfterRead (texts_at holds order.reads (texts_of order.command)) v (λ texts. JudgesTexts order.command texts order.writes v)

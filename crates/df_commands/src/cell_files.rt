@@ -1,20 +1,35 @@
 //! The cells of a file.
+ghost use Rattle.std.specs.Prelude.{IfOk, IfErr};
+ghost use Rattle.df_celltext.specs.Writable.{IsTextIn};
+ghost use Rattle.df_celltext.specs.WrongLines.{ShowsWrong};
 ghost use Rattle.df_commands.specs.Judged.{GivesMeaning};
 ghost use Rattle.df_commands.specs.Texts.{ReadsCellFile};
 
 use crate::refusals::{refused_at, refused_by_rule};
 use crate::stop::Stop;
 use df_cells::cells::Cells;
-use df_celltext::reader::{CellTextAnswer, read_cells};
+use df_celltext::reader::{CellTextAnswer, read_cells, read_cells_1};
+use df_celltext::version::Version;
 use df_wellformed::answers::WellFormedAnswer;
 use df_wellformed::rules::well_formed;
 use std::alloc::Global;
 
-/// The cells of a text, if they are well-formed.
-pub fn judge_cells(alloc: Global, text: &[u8]) -> Result<Cells, Stop>
-    ensures { GivesMeaning (λ cells. cells) result (ReadsCellFile text.now) }
+// The cells of a text in a version of the form.
+fn cells_of(alloc: Global, version: Version, text: &[u8]) -> Result<Cells, CellTextAnswer>
+    ensures found { IfOk result (λ cells. IsTextIn version text.now cells) }
+    ensures wrong { IfErr result (λ answer. ShowsWrong version text.now answer) }
 {
-    let cells = match read_cells(alloc, text) {
+    match version {
+        Version::One => read_cells_1(alloc, text),
+        Version::Two => read_cells(alloc, text),
+    }
+}
+
+/// The cells of a text in a version of the form, if they are well-formed.
+pub fn judge_cells(alloc: Global, version: Version, text: &[u8]) -> Result<Cells, Stop>
+    ensures { GivesMeaning (λ cells. cells) result (ReadsCellFile version text.now) }
+{
+    let cells = match cells_of(alloc, version, text) {
         Ok(cells) => cells,
         Err(CellTextAnswer::BadCellText(line)) => {
             return Err(Stop::Refused(refused_at(alloc, "BadCellText", line)?));

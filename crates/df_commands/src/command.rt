@@ -61,14 +61,17 @@ pub enum Command {
     Run,
     /// Tells of the cells of a file that their buffers are balanced and least, if a dual flow shows it.
     Verify,
+    /// Writes the cells of a file of version 1 as one of version 2.
+    Migrate,
 }
 
-const COMMANDS: [Command; 5] = [
+const COMMANDS: [Command; 6] = [
     Command::Check,
     Command::Eval,
     Command::Go,
     Command::Run,
     Command::Verify,
+    Command::Migrate,
 ];
 
 impl Command {
@@ -82,6 +85,7 @@ impl Command {
             Command::Go => "go",
             Command::Run => "run",
             Command::Verify => "verify",
+            Command::Migrate => "migrate",
         }
     }
 
@@ -95,6 +99,7 @@ impl Command {
             Command::Go => &[Text::Source, Text::Input, Text::Schedule],
             Command::Run => &[Text::Cells, Text::Input, Text::Schedule],
             Command::Verify => &[Text::Cells, Text::Dual],
+            Command::Migrate => &[Text::Cells],
         }
     }
 
@@ -104,6 +109,7 @@ impl Command {
     {
         match self {
             Command::Go => 2,
+            Command::Migrate => 1,
             Command::Check | Command::Eval | Command::Run | Command::Verify => 0,
         }
     }

@@ -12,6 +12,7 @@ pub mod compile;
 mod eval;
 mod go;
 pub mod laws;
+mod migrate;
 pub mod plan;
 pub mod planned;
 pub mod program;

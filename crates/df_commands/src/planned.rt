@@ -11,6 +11,7 @@ use crate::check::check;
 use crate::command::{Command, Order};
 use crate::eval::eval;
 use crate::go::go;
+use crate::migrate::migrate;
 use crate::plan::Plan;
 use crate::reads::texts_of;
 use crate::run::run;
@@ -51,6 +52,7 @@ fn plan_of<'a>(
             texts[2].as_slice(),
         ),
         Command::Verify => verify(alloc, texts[0].as_slice(), texts[1].as_slice()),
+        Command::Migrate => migrate(alloc, texts[0].as_slice(), &writes[0]),
     }
 }
 

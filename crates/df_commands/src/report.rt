@@ -1,7 +1,7 @@
 //! The texts that report a run and tell of least buffers.
 ghost use Rattle.std.specs.Prelude.{◌≡◌, ◌++◌, OnOk, IfOk};
 ghost use Rattle.df_stages.specs.Skeletons.{buffers};
-ghost use Rattle.df_commands.specs.Reports.{report_text, spaced_counts, least_text, others};
+ghost use Rattle.df_commands.specs.Reports.{report_text, spaced_counts, least_text, others, migrated_text};
 
 use df_cells::cells::{CellId, Cells};
 use df_histories::tracked::Tracked;
@@ -78,6 +78,17 @@ pub fn least(alloc: Global, cells: &Cells) -> Result<Bytes, Memory>
     text.push_number(u64::from(count_others(cells)))?;
     text.push_text("\nbuffers ")?;
     text.push_number(u64::from(count_buffers(cells)))?;
+    text.push_text("\n")?;
+    Ok(text)
+}
+
+/// What is told of cells that are written anew: how many there are. The only error is want of memory.
+pub fn migrated(alloc: Global, cells: &Cells) -> Result<Bytes, Memory>
+    ensures { IfOk result (λ text. text ≡ migrated_text cells.now) }
+{
+    let mut text = Bytes::new(alloc);
+    text.push_text("migrated ")?;
+    text.push_number(u64::from(cells.len()))?;
     text.push_text("\n")?;
     Ok(text)
 }

@@ -12,6 +12,7 @@ use crate::plan::Plan;
 use crate::runs::{RunTexts, judged_inputs, run_cells};
 use crate::stop::Stop;
 use df_cells::cells::Cells;
+use df_celltext::version::Version;
 use std::alloc::Global;
 
 // Cells to be run, with the texts of the run.
@@ -30,7 +31,7 @@ fn judged(alloc: Global, cells: &[u8], input: &[u8], schedule: &[u8]) -> Result<
     ensures valid { IfOk result (λ run. AreValid (declarations run.cells) run.texts.inputs.lists) }
     ensures few { IfOk result (λ run. HasFewChoices run.texts.schedule) }
 {
-    let cells = judge_cells(alloc, cells)?;
+    let cells = judge_cells(alloc, Version::Two, cells)?;
     let decls = cells.inputs()?;
     let texts = judged_inputs(alloc, &decls, input, schedule)?;
     Ok(CellsToRun { cells, texts })

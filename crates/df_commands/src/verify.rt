@@ -12,6 +12,7 @@ use crate::refusals::{refused_at, refused_dual};
 use crate::report::least;
 use crate::stop::Stop;
 use df_cells::cells::Cells;
+use df_celltext::version::Version;
 use df_dual_check::dual_check::check_dual;
 use df_dual_check::dual_text::{DualTextAnswer, read_dual};
 use df_stages::building::skeleton;
@@ -45,7 +46,7 @@ fn judged(alloc: Global, cells: &[u8], dual: &[u8]) -> Result<Cells, Stop>
     ensures balanced { IfOk result IsBalanced }
     ensures least { IfOk result IsLeast }
 {
-    let cells = judge_cells(alloc, cells)?;
+    let cells = judge_cells(alloc, Version::Two, cells)?;
     certifies_least();
     judge_dual(alloc, dual, &cells)?;
     Ok(cells)
