@@ -58,25 +58,17 @@ struct Built {
     texts: RunTexts,
 }
 
-// Judges the texts in their order. The names of the files to be written are those of the task.
-fn judged(
-    alloc: Global,
-    source: &[u8],
-    input: &[u8],
-    schedule: &[u8],
-    cells: &String,
-    dual: &String,
-) -> Result<Built, Stop>
+// Judges the texts in their order, whatever the names are of the files to be written.
+fn judged(alloc: Global, source: &[u8], input: &[u8], schedule: &[u8]) -> Result<Built, Stop>
     requires { length input.now ≤ 4294967294 }
-    ensures finds { Finds
-        (λ it. CompileAndRun it.program it.texts.inputs.lists it.texts.schedule (string_bytes cells.now) (string_bytes dual.now))
-        (JudgesGo source.now input.now schedule.now (string_bytes cells.now) (string_bytes dual.now)) result }
+    ensures finds { (cells dual : List ℕ) → Finds
+        (λ it. CompileAndRun it.program it.texts.inputs.lists it.texts.schedule cells dual)
+        (JudgesGo source.now input.now schedule.now cells dual) result }
     ensures no_fault { IsErrOf result Stop.ReadFault → ⊥ }
     ensures within { IfOk result (λ it. IsWithin it.program) }
     ensures valid { IfOk result (λ it. AreValid (inputs_of it.program) it.texts.inputs.lists) }
     ensures few { IfOk result (λ it. HasFewChoices it.texts.schedule) }
 {
-    let _names = (cells, dual);
     let program = judge_source(alloc, source)?;
     let decls = inputs_of_program(alloc, &program)?;
     let texts = judged_inputs(alloc, &decls, input, schedule)?;
@@ -142,6 +134,6 @@ pub fn go<'a>(
     ensures settles { Settles (JudgesGo source.now input.now schedule.now (string_bytes cells.now) (string_bytes dual.now)) result }
     ensures no_fault { IsErrOf result Stop.ReadFault → ⊥ }
 {
-    let it = judged(alloc, source, input, schedule, cells, dual)?;
+    let it = judged(alloc, source, input, schedule)?;
     Ok(planned(alloc, it.program, it.texts, cells, dual)?)
 }

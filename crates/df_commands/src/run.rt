@@ -43,7 +43,7 @@ pub fn run<'a>(alloc: Global, cells: &[u8], input: &[u8], schedule: &[u8]) -> Re
     ensures settles { Settles (JudgesRun cells.now input.now schedule.now) result }
     ensures no_fault { IsErrOf result Stop.ReadFault → ⊥ }
 {
-    let run = judged(alloc, cells, input, schedule)?;
-    let ran = run_cells(alloc, run.cells, run.texts.inputs, &run.texts.schedule)?;
+    let CellsToRun { cells, texts } = judged(alloc, cells, input, schedule)?;
+    let ran = run_cells(alloc, cells, texts.inputs, &texts.schedule)?;
     Ok(Plan::of_text(alloc, ran.text, ran.is_drained))
 }
