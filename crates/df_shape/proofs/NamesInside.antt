@@ -115,6 +115,5 @@ array name e at value is = names_at name e (Node-F.Array at value) (opened.array
 pub updated : (name : Name) (e : Expr) (array : Name) (at value : Expr) → e.node ≡ n.Update array at value → names_it name e ≡ (names_it name at || names_it name value)
 updated name e array at value is = names_at name e (Node-F.Update array at value) (opened.updated e.node array at value is)
 
-
 pub ruleset forms =
     (number, truth, fault, named, access, called, chain, compared, negate, invert, parens, tested, two_place, chosen, let_in, construct, folded, loop, array, updated)

@@ -88,7 +88,6 @@ array m at value is = opened m (Node-F.Array at value) (is ∙ sym (n.rolls-Arra
 pub updated : (m : Node) (name : Name) (at value : Expr) → m ≡ n.Update name at value → out-Node m ≡ Node-F.Update name at value
 updated m name at value is = opened m (Node-F.Update name at value) (is ∙ sym (n.rolls-Update name at value))
 
-
 -- and back
 
 pub is_number : (m : Node) (v : ℤ) → out-Node m ≡ Node-F.Number v → m ≡ n.Number v

@@ -133,7 +133,6 @@ pub updated : (names : Names) (e : Expr) (name : Name) (at value : Expr) → e.n
     → (renamed names e).node ≡ n.Update name (renamed names at) (renamed names value)
 updated names e name at value is = renamed_node names e (Node-F.Update name at value) (is ∙ sym (n.rolls-Update name at value))
 
-
 -- an expression keeps its place
 pub placed : (names : Names) (e : Expr) → renamed names e ≡ made_at e.place (renamed names e).node
 placed names e =
