@@ -1,6 +1,6 @@
 use Rattle.std.proofs.Common.{List, ℕ, Ok, subst, refl}
 use Rattle.std.proofs.lemmas.Result.{err_from_is_err_and}
-use Rattle.std.specs.Prelude.{map, string_bytes}
+use Rattle.std.specs.Prelude.{map}
 use Rattle.df_values.specs.Inputs.{AreValid}
 use Rattle.df_cells.specs.Cells.{declaration_of}
 use Rattle.df_commands.specs.Meanings.{decls_of}
@@ -18,25 +18,25 @@ abbrev asked : (input schedule cells dual : List ℕ) → Verdict → Program �
 asked input schedule cells dual v program = JudgesInputs (decls_of program) input schedule (λ inputs choices. CompileAndRun program inputs choices cells dual) v
 
 pub returns-in_err-program-clause-finds : goal.returns-in_err-program-clause-finds
-returns-in_err-program-clause-finds c =
+returns-in_err-program-clause-finds c cells dual =
     let p = err_from_is_err_and c.from_residual.result c.from_residual.ensures.1 in
     rw (p.1, p.2) (refused_first (λ (program : Program). program) (ReadsSource c.args.source.now)
-    (asked c.args.input.now c.args.schedule.now (string_bytes c.args.cells.now) (string_bytes c.args.dual.now))
+    (asked c.args.input.now c.args.schedule.now cells dual)
     c.in_err-program.field-0.0 c.in_err-program.ensures)
 
 pub returns-in_err-texts-clause-finds : goal.returns-in_err-texts-clause-finds
-returns-in_err-texts-clause-finds c =
+returns-in_err-texts-clause-finds c cells dual =
     let p = err_from_is_err_and c.from_residual-in_err-texts.result c.from_residual-in_err-texts.ensures.1 in
     rw (p.1, p.2) (refused_behind (ReadsSource c.args.source.now)
-    (asked c.args.input.now c.args.schedule.now (string_bytes c.args.cells.now) (string_bytes c.args.dual.now))
+    (asked c.args.input.now c.args.schedule.now cells dual)
     c.in_ok-program.program c.in_err-texts.field-0.0 c.in_ok-program.ensures
-    (subst (λ decls. StopsAs (JudgesInputs decls c.args.input.now c.args.schedule.now (λ inputs choices. CompileAndRun c.in_ok-program.program inputs choices (string_bytes c.args.cells.now) (string_bytes c.args.dual.now)))
+    (subst (λ decls. StopsAs (JudgesInputs decls c.args.input.now c.args.schedule.now (λ inputs choices. CompileAndRun c.in_ok-program.program inputs choices cells dual))
     c.in_err-texts.field-0.0)
     c.in_ok-decls.ensures.decls
-    (c.in_err-texts.ensures.stops (λ inputs choices. CompileAndRun c.in_ok-program.program inputs choices (string_bytes c.args.cells.now) (string_bytes c.args.dual.now)))))
+    (c.in_err-texts.ensures.stops (λ inputs choices. CompileAndRun c.in_ok-program.program inputs choices cells dual))))
 
 pub returns-clause-finds : goal.returns-clause-finds
-returns-clause-finds c = record {
+returns-clause-finds c cells dual = record {
   read = Ok c.in_ok-program.program;
   reads = c.in_ok-program.ensures;
   goes = record {

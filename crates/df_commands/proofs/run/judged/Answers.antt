@@ -4,6 +4,7 @@ use Rattle.df_values.specs.Inputs.{AreValid}
 use Rattle.df_cells.specs.declared.cells.Cell.{Cell}
 use Rattle.df_cells.specs.Cells.{inputs_of, declaration_of}
 use Rattle.df_iotext.specs.Inputs.{HaveOwnNames}
+use Rattle.df_celltext.specs.declared.version.Version.TheVariants.{Two}
 use Rattle.df_commands.specs.Texts.{ReadsInputText, ReadsCellFile}
 use Rattle.df_commands.specs.Verdicts.{Verdict, RunCells, JudgesInputs}
 use Rattle.df_commands.specs.Judged.{StopsAs}
@@ -16,7 +17,7 @@ use Rattle.df_commands.proofs.run.judged.Goals as goal
 pub returns-in_err-cells-clause-finds : goal.returns-in_err-cells-clause-finds
 returns-in_err-cells-clause-finds c =
     let p = err_from_is_err_and c.from_residual.result c.from_residual.ensures.1 in
-    rw (p.1, p.2) (refused_first (λ (cells : List Cell). cells) (ReadsCellFile c.args.cells.now)
+    rw (p.1, p.2) (refused_first (λ (cells : List Cell). cells) (ReadsCellFile Two c.args.cells.now)
     (λ (v : Verdict) (cells : List Cell). JudgesInputs (inputs_of cells) c.args.input.now c.args.schedule.now (λ inputs choices. RunCells cells inputs choices) v)
     c.in_err-cells.field-0.0 c.in_err-cells.ensures)
 
@@ -26,7 +27,7 @@ judged_inputs-requires-clause-names c = subst HaveOwnNames (sym c.in_ok-decls.en
 pub returns-in_err-texts-clause-finds : goal.returns-in_err-texts-clause-finds
 returns-in_err-texts-clause-finds c =
     let p = err_from_is_err_and c.from_residual-in_err-texts.result c.from_residual-in_err-texts.ensures.1 in
-    rw (p.1, p.2) (refused_behind (ReadsCellFile c.args.cells.now)
+    rw (p.1, p.2) (refused_behind (ReadsCellFile Two c.args.cells.now)
     (λ (v : Verdict) (cells : List Cell). JudgesInputs (inputs_of cells) c.args.input.now c.args.schedule.now (λ inputs choices. RunCells cells inputs choices) v)
     c.in_ok-cells.cells c.in_err-texts.field-0.0 c.in_ok-cells.ensures
     (subst (λ decls. StopsAs (JudgesInputs decls c.args.input.now c.args.schedule.now (λ inputs choices. RunCells c.in_ok-cells.cells inputs choices)) c.in_err-texts.field-0.0)
