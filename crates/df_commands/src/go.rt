@@ -1,5 +1,5 @@
 //! `go`: a source is compiled, and its cells are run and written.
-ghost use Rattle.std.specs.Prelude.{◌≡◌, ◌≤◌, length, IfOk, IsErrOf, string_bytes};
+ghost use Rattle.std.specs.Prelude.{ℕ, List, ◌≡◌, ◌≤◌, length, IfOk, IsErrOf, string_bytes};
 ghost use Rattle.df_values.specs.Inputs.{AreValid};
 ghost use Rattle.df_iotext.specs.Inputs.{HaveOwnNames};
 ghost use Rattle.df_commands.specs.Compiled.{MayDo, unit_flow};
