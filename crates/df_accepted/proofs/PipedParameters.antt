@@ -2,7 +2,6 @@
 use Rattle.std.proofs.Common.{arith, ◌≡◌, ℕ, ◌+◌, ◌≤◌, ℤ, Bool, true, false, List, [], ◌∷◌, ◌++◌, map, fold, length, refl, sym, ◌∙◌, ap, subst, Some, None, bytes_eq, append_assoc, append-nil}
 use Rattle.std.specs.Option.{is_some}
 use Rattle.std.specs.List.{IsDistinct, AllByRecursion}
-use Rattle.df_values.specs.declared.values.Basic as basic
 use Rattle.df_values.specs.declared.inputs.Input.{Input}
 use Rattle.df_syntax.specs.declared.tree.Sort.{Sort}
 use Rattle.df_syntax.specs.declared.tree.Sort.TheVariants as of

@@ -1,16 +1,15 @@
 -- What an expression tells once it is put into blocks, by its node; and what its bounds tell of its parts.
-use Rattle.std.proofs.Common.{◌≡◌, ◌∙◌, ◌&&◌, sym, ap, ap₂, Bool, true, false, List, map, Option, Some, None, [], ◌∷◌, refl}
+use Rattle.std.proofs.Common.{◌≡◌, ◌∙◌, ◌&&◌, sym, ap, ap₂, Bool, true, List, map, Option, Some, None, [], ◌∷◌, refl}
 use Rattle.std.proofs.lemmas.Simd.{map-map}
 use Rattle.df_values.specs.declared.kinds.Op.{Op}
 use Rattle.df_syntax.specs.declared.tree.Named.{Named}
 use Rattle.df_syntax.specs.declared.tree.Sort.{Sort}
-use Rattle.df_syntax.specs.declared.tree.Parameter.{Parameter}
 use Rattle.df_syntax.specs.declared.tree.Expr.{Expr, roll-out-Expr}
 use Rattle.df_syntax.specs.declared.tree.Link.{Link, fold_out-Link}
 use Rattle.df_syntax.specs.declared.tree.Arm.{Arm, fold_out-Arm}
 use Rattle.df_syntax.specs.declared.tree.Assign.{Assign, fold_out-Assign}
 use Rattle.df_syntax.specs.declared.tree.Definition.{Definition, fold_out-Definition}
-use Rattle.df_syntax.specs.declared.tree.Node.{roll-Node, fold-roll-Node}
+use Rattle.df_syntax.specs.declared.tree.Node.{roll-Node}
 use Rattle.df_syntax.specs.declared.tree.Node.TheVariants as n
 use Rattle.df_syntax.specs.declared.tree.Node.TheOpen.{Node-F}
 use Rattle.df_syntax.specs.Trees.{Layer, Opened, layer_of, map_same}
@@ -116,8 +115,6 @@ assigns_are : (assigns : List Assign) → map assign_bounds assigns
 assigns_are assigns =
     map_same Assign Bool assign_bounds (λ a. is_bounded a.value) assign_is assigns
     ∙ sym (map-map (λ (a : Named × Bool). a.1) (λ (a : Assign). (a.name, is_bounded a.value)) assigns)
-
-unfolding node_bounds
 
 node_is : (x : Opened) → node_bounds (roll-Node x) ≡ layer_bounded (layer_of Bool is_bounded x)
 node_is (Node-F.Number v) = ap node_bounds (n.rolls-Number v) ∙ folds.bounds_Number v
