@@ -24,7 +24,6 @@ use Rattle.df_types.specs.Types.{Look, look_of}
 use Rattle.df_types.proofs.Looks.{look_is}
 use Rattle.df_shape.specs.declared.standing.Standing.{Standing}
 use Rattle.df_shape.specs.declared.standing.Standing.TheVariants as standing
-use Rattle.df_shape.specs.Renamed.{Names}
 use Rattle.df_shape.specs.Shaped.{Made, standing_by, body_of, define_by, define, name_standing}
 use Rattle.df_accepted.proofs.Agreed.{Agrees, Fits, Sorts, agrees_more, none_new, differs, bind_new, bind_old, some_behind, sort_of_new, sort_of_old}
 use Rattle.df_accepted.proofs.Forms.{around}

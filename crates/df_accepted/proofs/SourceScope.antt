@@ -3,7 +3,6 @@ use Rattle.std.proofs.Common.{arith, ◌≡◌, ℕ, ℤ, Bool, true, false, ◌
 use Rattle.std.specs.Option.{is_some}
 use Rattle.std.specs.List.{list_all, list_any}
 use Rattle.df_syntax.specs.declared.tree.Sort.{Sort}
-use Rattle.df_syntax.specs.declared.tree.Sort.TheVariants.{Array}
 use Rattle.df_syntax.specs.declared.tree.Parameter.{Parameter}
 use Rattle.df_syntax.specs.declared.program.Constant.{Constant}
 use Rattle.df_syntax.specs.declared.program.Function.{Function}

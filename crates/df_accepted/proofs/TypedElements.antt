@@ -89,8 +89,9 @@ module _ (all functions : List Function) (numbers : Numbers) (names : Names) (st
   elem_typed index elem c none bounded h sort d =
       let inner = agrees_inside all functions callable names scope sorts agrees index.name integer none in
       let index_stands = none_new all functions callable names scope sorts agrees index.name integer none index.name (is_itself index.name) in
+      let index_bound = ap is_some (bind_new scope index.name (entry.Local integer) index.name (is_itself index.name)) in
       type_is names elem (around (sorts ++ (index.name, integer) ∷ []) functions (Offset index.name))
-      ∙ part_typed all functions numbers names stand arrays callable gives elem (look.inside index scope) (sorts ++ (index.name, integer) ∷ []) (Element index.name None) inner index_stands (ap is_some (bind_new scope index.name (entry.Local integer) index.name (is_itself index.name))) bounded h d (λ may. absurd (cc)) c sort
+      ∙ part_typed all functions numbers names stand arrays callable gives elem (look.inside index scope) (sorts ++ (index.name, integer) ∷ []) (Element index.name None) inner index_stands index_bound bounded h d (λ may. absurd (cc)) c sort
 
   abbrev range_asked : Named → Expr → Expr → List types.Demand
   range_asked index low high = look.range_demands index (l low) (l high) scope

@@ -108,13 +108,16 @@ module _ (all functions : List Function) (numbers : Numbers) (names : Names) (st
   next_typed elem b none_t bounded h sort d =
       type_is names elem (around ((sorts ++ (t, of.Array b) ∷ []) ++ (i, integer) ∷ []) functions (Previous i t))
       ∙ part_typed all functions numbers names stand arrays callable gives elem (with_both b) ((sorts ++ (t, of.Array b) ∷ []) ++ (i, integer) ∷ []) (Element i (Some t))
-      agrees_both (none_i_stands, own_stands) (some_behind with_index t (entry.Local (of.Array b)) i (ap is_some (bind_new scope i (entry.Local integer) i (is_itself i)))) bounded h d (λ may. absurd (cc)) b sort
+      agrees_both (none_i_stands, own_stands) (some_behind with_index t (entry.Local (of.Array b)) i index_bound) bounded h d (λ may. absurd (cc)) b sort
     where
       agrees_index : Agrees all functions callable names with_index (sorts ++ (i, integer) ∷ [])
       agrees_index = agrees_inside all functions callable names scope sorts agrees i integer none_i
 
+      index_bound : is_some (with_index i) ≡ true
+      index_bound = ap is_some (bind_new scope i (entry.Local integer) i (is_itself i))
+
       apart : bytes_eq i t ≡ false
-      apart = either_way i t ∙ differs with_index t i none_t (ap is_some (bind_new scope i (entry.Local integer) i (is_itself i)))
+      apart = either_way i t ∙ differs with_index t i none_t index_bound
 
       agrees_both : Agrees all functions callable names (with_both b) ((sorts ++ (t, of.Array b) ∷ []) ++ (i, integer) ∷ [])
       agrees_both =

@@ -178,8 +178,11 @@ module _ (all functions : List Function) (numbers : Numbers) (names : Names) (st
         let h' = tail_holds (fresh x.0.name scope) (own ++ others) h in
         let first = demands_of x.0.value (record (inside (here part)) { part = definition_part x.0.sort (operand_part part) }) in
         let typed_here = by x.0.sort bounds.0 (begin_holds own others h') (begin_holds first _ d) in
+        let allowed =
+        and_from (shaped.is_basic x.0.sort ((told names x.0.value).type_in (target sorts))) (not (is_index (subscripts_of part) x.0.name.name)) typed_here
+        (no_index scope part x.0.name.name indexed fresh_name) in
         ap (λ (a : Option shaped.Around). only_type (told names v.0 ∷ []) (fold defines a (told_definitions ds)))
-        (ap (λ t. if t then Some (with_name (target sorts) x.0.name.name x.0.sort) else None) (and_from (shaped.is_basic x.0.sort ((told names x.0.value).type_in (target sorts))) (not (is_index (subscripts_of part) x.0.name.name)) typed_here (no_index scope part x.0.name.name indexed fresh_name)))
+        (ap (λ t. if t then Some (with_name (target sorts) x.0.name.name x.0.sort) else None) allowed)
         ∙ let_has ds v inner (sorts ++ (x.0.name.name, x.0.sort) ∷ []) (agrees_inside all functions callable names scope sorts agrees x.0.name.name x.0.sort fresh_name)
         (has_behind scope part x.0.name.name (entry.Local x.0.sort) indexed) bounds.1 bounded (rest_holds own others h') k (rest_holds first _ d) e b is
       where

@@ -16,7 +16,7 @@ use Rattle.df_syntax.specs.declared.piped.Block.{Block}
 use Rattle.df_syntax.specs.declared.piped.Outcome.{Outcome}
 use Rattle.df_syntax.specs.declared.piped.Outcome.TheVariants as outcome
 use Rattle.df_syntax.specs.Trees.{Opened}
-use Rattle.df_syntax.specs.Meaning.{Name, scalar}
+use Rattle.df_syntax.specs.Meaning.{Name}
 use Rattle.df_syntax.specs.BlockMeaning.{blocks_made, result_of, values_of, cut}
 use Rattle.df_syntax.specs.BlockMeaning as blocks_of
 use Rattle.df_syntax.specs.FreshNames.{Taken, also, is_fresh}
@@ -31,7 +31,7 @@ use Rattle.df_shape.proofs.Agreement.{Bounds, itself_after, also_taken}
 use Rattle.df_shape.proofs.Kept.{Calls, with_calls}
 use Rattle.df_shape.proofs.MainNames.{AreKnown, HaveMade, Known, known_after, known_alias, also_itself}
 use Rattle.df_shape.proofs.BoundsKnown.{BoundsKnown}
-use Rattle.df_shape.proofs.BodyKept.{side_kept, name_value}
+use Rattle.df_shape.proofs.BodyKept.{side_kept}
 
 -- ---- lists
 

@@ -28,7 +28,7 @@ use Rattle.df_shape.specs.Renamed.{Names, renamed, node_renamed, value_renamed, 
 use Rattle.df_shape.proofs.RenamedForms.{renamed_node}
 use Rattle.std.proofs.lemmas.Bool.{not-true}
 use Rattle.df_syntax.proofs.Tests.{and_left, and_right}
-use Rattle.df_shape.proofs.Agreement.{Bounds, Agree, AgreesBy, agree_after, not_both}
+use Rattle.df_shape.proofs.Agreement.{Bounds, Agree, AgreesBy, agree_after}
 
 abbrev pub Calls : Type 0
 Calls = Name → List (Option Value) → Option Value
