@@ -3,10 +3,10 @@ pub mod SourceTexts
 pub mod Judging
 pub mod OwnNames
 pub mod Readings
-pub mod Outcomes
 pub mod Additions
 pub mod Faithful
 pub mod ReportLines
+pub mod ReadTexts
 pub mod RunReports
 pub mod ReadyTasks
 pub mod CellReadings

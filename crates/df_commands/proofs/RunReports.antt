@@ -1,5 +1,5 @@
 -- The report of a run, from what the run gave.
-use Rattle.std.proofs.Common.{◌≡◌, ◌==◌, ℕ, suc, zero, Bool, true, false, List, IsTrue, ◌↔◌, refl, sym, ◌∙◌, ap, subst, arith}
+use Rattle.std.proofs.Common.{◌≡◌, ◌==◌, ◌≤◌, ℕ, suc, zero, Bool, true, false, List, IsTrue, ◌↔◌, refl, sym, ◌∙◌, ap, subst, arith}
 use Rattle.std.proofs.lemmas.Bool.{false≢true}
 use Rattle.df_values.specs.declared.values.Value.{Value}
 use Rattle.df_cells.specs.declared.cells.Cell.{Cell}
@@ -7,7 +7,8 @@ use Rattle.df_machine.specs.Events.{possible}
 use Rattle.df_machine.specs.Reports.{Report, report}
 use Rattle.df_machine.specs.Runs.{run, after, events, events_from}
 use Rattle.df_machine.specs.Seen.{Loaded}
-use Rattle.df_machine.specs.States.{start}
+use Rattle.df_machine.specs.States.{start, told}
+use Rattle.df_machine.specs.Laws.{TellsShortRuns}
 
 other_than : (n : ℕ) → (suc n == 0) ≡ false
 other_than n = grind arith
@@ -31,21 +32,31 @@ abbrev reported : Loaded → ℕ → Bool → Report
 reported ran n drained = record { drained = drained; events = n; results = ran.state.results; fired = ran.state.fired }
 
 abbrev ran_from : Loaded → List ℕ → Loaded
-ran_from loaded choices = record loaded { state = run loaded.cells loaded.inputs loaded.state choices }
+ran_from loaded choices = record loaded { state = told (run loaded.cells loaded.inputs loaded.state choices) }
+
+-- the same with all its firings
+abbrev ran_whole : List Cell → List (List Value) → List ℕ → Loaded
+ran_whole cells inputs choices = record { cells = cells; inputs = inputs; state = run cells inputs (start cells) choices }
+
+whole_told : TellsShortRuns → (cells : List Cell) (inputs : List (List Value)) (choices : List ℕ) → events_from cells inputs (start cells) choices ≤ 4294967295
+    → told (run cells inputs (start cells) choices) ≡ run cells inputs (start cells) choices
+unfolding after events
+whole_told law cells inputs choices few = law cells inputs choices few
 
 report_of : (cells : List Cell) (inputs : List (List Value)) (choices : List ℕ) (drained : Bool) → (IsTrue drained ↔ (possible cells (run cells inputs (start cells) choices) ≡ 0))
-    → reported (ran_from (loaded_with cells inputs) choices) (events_from cells inputs (start cells) choices) drained ≡ report cells inputs choices
+    → reported (ran_whole cells inputs choices) (events_from cells inputs (start cells) choices) drained ≡ report cells inputs choices
 unfolding report after events
 report_of cells inputs choices drained h =
     ap (λ b. record { drained = b; events = events_from cells inputs (start cells) choices; results = (run cells inputs (start cells) choices).results; fired = (run cells inputs (start cells) choices).fired })
     (same_test drained (possible cells (run cells inputs (start cells) choices)) h)
 
-pub same_report : (cells : List Cell) (inputs : List (List Value)) (choices : List ℕ) (loaded ran : Loaded) (n : ℕ) (drained : Bool)
-    → loaded.cells ≡ cells → loaded.inputs ≡ inputs → loaded.state ≡ start cells → ran ≡ ran_from loaded choices → n ≡ events_from loaded.cells loaded.inputs loaded.state choices
+pub same_report : TellsShortRuns → (cells : List Cell) (inputs : List (List Value)) (choices : List ℕ) (loaded ran : Loaded) (n : ℕ) (drained : Bool)
+    → loaded.cells ≡ cells → loaded.inputs ≡ inputs → loaded.state ≡ start cells → ran ≡ ran_from loaded choices → n ≡ events_from loaded.cells loaded.inputs loaded.state choices → n ≤ 4294967295
     → (IsTrue drained ↔ (possible ran.cells ran.state ≡ 0)) → reported ran n drained ≡ report cells inputs choices
-same_report cells inputs choices loaded ran n drained a b c d e h =
+same_report law cells inputs choices loaded ran n drained a b c d e few h =
     let same = same_loaded cells inputs loaded a b c in
-    let whole : ran ≡ ran_from (loaded_with cells inputs) choices = d ∙ ap (λ l. ran_from l choices) same in
     let count : n ≡ events_from cells inputs (start cells) choices = e ∙ ap (λ (l : Loaded). events_from l.cells l.inputs l.state choices) same in
-    ap (λ r. reported r n drained) whole ∙ ap (λ k. reported (ran_from (loaded_with cells inputs) choices) k drained) count
+    let whole : ran ≡ ran_whole cells inputs choices = d ∙ ap (λ l. ran_from l choices) same
+    ∙ ap (λ s. record { cells = cells; inputs = inputs; state = s }) (whole_told law cells inputs choices (omega (arith, few, count))) in
+    ap (λ r. reported r n drained) whole ∙ ap (λ k. reported (ran_whole cells inputs choices) k drained) count
     ∙ report_of cells inputs choices drained (subst (λ (r : Loaded). IsTrue drained ↔ (possible r.cells r.state ≡ 0)) whole h)

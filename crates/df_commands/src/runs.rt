@@ -21,6 +21,7 @@ use df_cells::schedules::Schedule;
 use df_histories::tracked::{Tracked, run_tracked};
 use df_iotext::inputs::read_inputs;
 use df_iotext::schedules::{ScheduleAnswer, read_schedule};
+use df_machine::laws::tells_short_runs;
 use df_machine::runs::ScheduleChooser;
 use df_values::bytes::Bytes;
 use df_values::memory::Memory;
@@ -103,6 +104,7 @@ pub fn run_cells(
     ensures text { IfOk result (λ ran. ran.text ≡ report_text (run_of cells inputs.lists schedule.now)) }
     ensures drained { IfOk result (λ ran. ran.is_drained ≡ (run_of cells inputs.lists schedule.now).drained) }
 {
+    tells_short_runs();
     let mut machine = Tracked::load(alloc, cells, inputs)?;
     let end = run_tracked(
         &mut machine,

@@ -1,5 +1,5 @@
 use Rattle.df_syntax.specs.declared.program.Program.{Program}
-use Rattle.std.proofs.Common.{◌≡◌, Ok, refl}
+use Rattle.std.proofs.Common.{◌≡◌, ◌∙◌, Ok, true, refl, ap, []}
 use Rattle.std.proofs.lemmas.Result.{err_from_is_err_and}
 use Rattle.df_commands.specs.declared.programs.Source.{Source}
 use Rattle.df_commands.specs.ProgramTexts.{ReadsProgram}
@@ -14,4 +14,8 @@ returns-in_err-judge_program-clause-settles c =
     c.in_err-judge_program.field-0.0 c.in_err-judge_program.ensures.reads)
 
 pub returns-clause-settles : goal.returns-clause-settles
-returns-clause-settles c = record { read = Ok c.in_ok-judge_program.field-0.tree; reads = c.in_ok-judge_program.ensures.reads; goes = refl }
+returns-clause-settles c = record {
+  task = TellRight;
+  judged = record { read = Ok c.in_ok-judge_program.field-0.tree; reads = c.in_ok-judge_program.ensures.reads; goes = refl };
+  does = c.of_text.ensures ∙ ap (λ text. record { files = []; text = text; is_done = true }) c.in_ok-ok_line.ensures;
+}

@@ -9,7 +9,7 @@ use Rattle.df_stages.specs.Skeletons.{arcs}
 use Rattle.df_commands.proofs.go.planned.Goals as goal
 
 pub run_cells-requires-clause-valid : goal.run_cells-requires-clause-valid
-run_cells-requires-clause-valid c = subst (λ cells. AreValid (declarations cells) c.args.inputs.lists) (sym c.in_ok-cells.ensures.skeleton) c.requires.valid
+run_cells-requires-clause-valid c = subst (λ cells. AreValid (declarations cells) c.args.texts.inputs.lists) (sym c.in_ok-cells.ensures.skeleton) c.requires.valid
 
 two_arcs : (name : List ℕ) (n k : ℕ) → length (arcs (three_cells name n k)) ≡ 2
 unfolding origin buffers_from gate_part merge_part
