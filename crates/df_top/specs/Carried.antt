@@ -3,9 +3,9 @@ use Rattle.std.specs.Prelude.{◌≡◌, true, false, Result, Ok, Err}
 use Rattle.df_io.specs.declared.files.Fault.{Fault}
 use Rattle.df_io.specs.declared.files.Fault.TheVariants as fault
 use Rattle.df_commands.specs.Effects.{Effect}
-use Rattle.df_commands.specs.Endings.{World, IsWhole, IsPart}
-use Rattle.df_commands.specs.declared.status.Status.{Status}
-use Rattle.df_commands.specs.declared.status.Status.TheVariants as status
+use Rattle.df_top.specs.Endings.{World, IsWhole, IsPart}
+use Rattle.df_top.specs.declared.status.Status.{Status}
+use Rattle.df_top.specs.declared.status.Status.TheVariants as status
 
 -- the status where the write succeeded, and else why it didn't
 abbrev pub ended : Result Unit Fault → Status → Status

@@ -2,10 +2,10 @@
 use Rattle.std.specs.Prelude.{◌≡◌, ◌⊎◌, Option, Some, None}
 use Rattle.df_io.specs.Told.{Holds}
 use Rattle.df_io.specs.Faults.{Faults, SinkFaults, Counts, Rises}
-use Rattle.df_commands.specs.Orders.{Order}
+use Rattle.df_commands.specs.Commands.{Order}
 use Rattle.df_commands.specs.Verdicts.{Verdict, Absent, Refused, Accepted, Judges}
-use Rattle.df_commands.specs.declared.status.Status.{Status}
-use Rattle.df_commands.specs.declared.status.Status.TheVariants as status
+use Rattle.df_top.specs.declared.status.Status.{Status}
+use Rattle.df_top.specs.declared.status.Status.TheVariants as status
 
 -- a file that is to be read isn't there, and nothing is refused before it
 abbrev pub IsAbsent : Option Order → Holds → Type 0

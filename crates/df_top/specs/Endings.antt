@@ -2,12 +2,12 @@
 use Rattle.std.specs.Prelude.{ℕ, ◌≡◌, ◌⊎◌, List, ◌++◌, take, true, false, Option, Some, None}
 use Rattle.df_io.specs.Told.{Holds}
 use Rattle.df_commands.specs.Lines.{usage}
-use Rattle.df_commands.specs.Orders.{Order}
+use Rattle.df_commands.specs.Commands.{Order}
 use Rattle.df_commands.specs.Verdicts.{Verdict, Absent, Refused, Accepted, Judges}
 use Rattle.df_commands.specs.Effects.{Effect, over, PartOf}
 use Rattle.df_commands.specs.Compiled.{MayDo}
-use Rattle.df_commands.specs.declared.status.Status.{Status}
-use Rattle.df_commands.specs.declared.status.Status.TheVariants as status
+use Rattle.df_top.specs.declared.status.Status.{Status}
+use Rattle.df_top.specs.declared.status.Status.TheVariants as status
 
 -- what the files hold, and what was written to the sink
 pub record World : Type 0 where

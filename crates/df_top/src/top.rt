@@ -59,12 +59,7 @@ fn carry_out<F: Files, K: Sink>(files: &mut F, out: &mut K, plan: &Plan<'_>) -> 
 }
 
 // Does what a command says, and answers how it ended.
-fn obey<F: Files, K: Sink>(
-    alloc: Global,
-    order: Order<'_>,
-    files: &mut F,
-    out: &mut K,
-) -> Status
+fn obey<F: Files, K: Sink>(alloc: Global, order: Order<'_>, files: &mut F, out: &mut K) -> Status
     requires idle { F.mode files.old ≡ FileMode.Idle }
     requires reads { length order.reads.now ≡ length (texts_of order.command) }
     requires writes { length order.writes.now ≡ written_by order.command }
