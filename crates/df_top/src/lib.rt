@@ -9,6 +9,5 @@ mod status;
 mod top;
 mod writes;
 
-pub use df_commands::report::report;
 pub use status::Status;
 pub use top::valflow;

@@ -1,3 +1,4 @@
+use Rattle.std.proofs.Common.{length}
 use Rattle.df_commands.proofs.command.+are_apart.Given as goal
 
 abbrev pub decreases-are_apart : goal.decreases-are_apart
