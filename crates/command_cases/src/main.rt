@@ -35,7 +35,12 @@ fn main(rt: HostRuntime) -> io::Result<()> {
         for case in cases.as_slice() {
             let told = tried(alloc, case, &mut counts)?;
             if !told.is_empty() {
-                println!(rt; "{}: {}\n{}", name.as_str(), case.title.as_str(), told.as_str())?;
+                println!(rt;
+                    "{}: {}\n{}",
+                    name.as_str(),
+                    case.title.as_str(),
+                    told.as_str()
+                )?;
             }
         }
     }

@@ -85,10 +85,7 @@ fn has_none(calls: Calls) -> bool {
 pub fn tried(alloc: Global, case: &Case, counts: &mut Counts) -> io::Result<String> {
     let mut told = String::new(alloc);
     if has_none(case.file_calls) && has_none(case.sink_calls) {
-        return Ok(counted(
-            counts,
-            run(alloc, case, Vec::new(alloc), Vec::new(alloc))?,
-        ));
+        return Ok(counted(counts, run(alloc, case, Vec::new(alloc), Vec::new(alloc))?));
     }
     for call in case.file_calls.start..case.file_calls.end {
         let found = run(alloc, case, vec![in alloc; call]?, Vec::new(alloc))?;

@@ -54,7 +54,7 @@ impl Graph {
     // The text of the cells at these stages, with their destinations in order.
     fn text(&self, alloc: Global, stages: &[i64]) -> Result<Bytes, Memory> {
         let mut text = Bytes::new(alloc);
-        text.push_text("dataflow 1 ")?;
+        text.push_text("dataflow 2 ")?;
         text.push_number(self.kinds.len() as u64)?;
         text.push_text("\n")?;
         for (c, (kind, feeds)) in self.kinds.iter().zip(self.feeds.iter()).enumerate() {

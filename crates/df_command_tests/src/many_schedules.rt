@@ -7,7 +7,7 @@ use std::alloc::Global;
 use std::test::Fail;
 
 const PRODUCTS: &str =
-    "dataflow 1 7\n0 IN A integer 3 stage 0 loop 0 ports dests 5.1\n1 MERGE stage 1 loop 1 ports @2 =1 @5 dests 3.1 6.0\n2 CTL 1*true 3*false stage 0 loop 0 ports dests 1.0\n3 TGATE stage 1 loop 1 ports @4 @1 dests 5.0\n4 CTL 3*true 1*false stage 0 loop 0 ports dests 3.0\n5 MUL stage 1 loop 1 ports @3 @0 dests 1.2\n6 OUT 1 4 stage 2 loop 0 ports @1 dests\nend\n";
+    "dataflow 2 7\n0 IN A integer 3 stage 0 loop 0 ports dests 5.1\n1 MERGE stage 1 loop 1 ports @2 =1 @5 dests 3.1 6.0\n2 CTL 1*true 3*false stage 0 loop 0 ports dests 1.0\n3 TGATE stage 1 loop 1 ports @4 @1 dests 5.0\n4 CTL 3*true 1*false stage 0 loop 0 ports dests 3.0\n5 MUL stage 1 loop 1 ports @3 @0 dests 1.2\n6 OUT 1 4 stage 2 loop 0 ports @1 dests\nend\n";
 
 const REPORT: &str = "drained\nevents 102\nresult 1 = 1 2 6 24\nfired 3 4 4 4 4 3 4\n";
 

@@ -6,10 +6,10 @@ use std::alloc::Global;
 use std::test::Fail;
 
 const LOOP: &str =
-    "dataflow 1 7\n0 IN A integer 3 stage 0 loop 0 ports dests 5.1\n1 MERGE stage 1 loop 1 ports @2 =1 @5 dests 3.1 6.0\n2 CTL 1*true 3*false stage 0 loop 0 ports dests 1.0\n3 TGATE stage 1 loop 1 ports @4 @1 dests 5.0\n4 CTL 3*true 1*false stage 0 loop 0 ports dests 3.0\n5 MUL stage 1 loop 1 ports @3 @0 dests 1.2\n6 OUT 1 4 stage 2 loop 0 ports @1 dests\nend\n";
+    "dataflow 2 7\n0 IN A integer 3 stage 0 loop 0 ports dests 5.1\n1 MERGE stage 1 loop 1 ports @2 =1 @5!true dests 3.1 6.0\n2 CTL 1*true 3*false stage 0 loop 0 ports dests 1.0\n3 TGATE stage 1 loop 1 ports @4 @1 dests 5.0\n4 CTL 3*true 1*false stage 0 loop 0 ports dests 3.0\n5 MUL stage 1 loop 1 ports @3 @0 dests 1.2\n6 OUT 1 4 stage 2 loop 0 ports @1 dests\nend\n";
 
 const SOURCES: &str =
-    "dataflow 1 4\n0 IDX -2147483648 9 stage 7 loop 0 ports dests 3.0\n1 CTL 2*-7 1*undef stage 0 loop 0 ports dests 3.1\n2 IN if_9 boolean 0 stage 0 loop 0 ports dests\n3 MIN stage 2 loop 0 ports @0 @1 dests\nend\n";
+    "dataflow 2 4\n0 IDX -9223372036854775808 9 stage 7 loop 0 ports dests 3.0\n1 CTL 2*-7 1*undef stage 0 loop 0 ports dests 3.1\n2 IN if_9 boolean 0 stage 0 loop 0 ports dests\n3 MIN stage 2 loop 0 ports @0 @1 dests\nend\n";
 
 // Refused, or read and written again as the same bytes.
 #[derive(Clone, Copy, PartialEq, Eq, Debug)]

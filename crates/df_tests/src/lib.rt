@@ -7,6 +7,8 @@
 #[cfg(test)]
 mod cancel;
 #[cfg(test)]
+mod cells;
+#[cfg(test)]
 mod celltext;
 #[cfg(test)]
 mod changed_celltext;
