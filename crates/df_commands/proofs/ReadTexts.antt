@@ -1,11 +1,15 @@
 -- Texts that are read one after another.
-use Rattle.std.proofs.Common.{◌≡◌, ◌∙◌, ◌⊎◌, inl, inr, ◌++◌, ◌∷◌, [], ◌≤◌, ◌<◌, ◌+◌, suc, ℕ, List, map, drop, length, length-map, get_or, drop-cons, Result, Ok, Err, IsTrue, All, string_bytes, refl, sym, ap, subst, append_assoc, arith}
+use Rattle.std.proofs.Common.{◌≡◌, ◌∙◌, ◌⊎◌, inl, inr, ◌++◌, ◌∷◌, [], ◌≤◌, ◌<◌, ◌+◌, suc, zero, ℕ, List, map, drop, length, get_or, drop-cons, Result, Ok, Err, IsTrue, All, String, Global, string_bytes, refl, sym, ap, subst, append_assoc, length-append, arith}
 use Rattle.std.proofs.Math.ListN.{get_or-map}
+use Rattle.std.proofs.lemmas.List.{length-map}
 use Rattle.std.proofs.lemmas.List.Elements.{All-append}
 use Rattle.df_io.specs.Faults.{Faults, Counts, HasReadCause, Rises}
 use Rattle.df_io.specs.Told.{Holds}
 use Rattle.df_commands.specs.Commands.{limit_of}
-use Rattle.df_commands.specs.Verdicts.{Verdict, Absent, text_at, texts_at, and_rest}
+use Rattle.df_commands.specs.Verdicts.{Verdict, Refused, Absent, text_at, texts_at, and_rest}
+use Rattle.df_commands.specs.Judged.{GivesRead}
+use Rattle.df_commands.specs.declared.stop.Stop.{Stop}
+use Rattle.df_commands.specs.declared.stop.Stop.TheVariants as stop
 use Rattle.df_commands.specs.declared.command.Text.{Text}
 use Rattle.df_commands.specs.declared.command.Text.TheVariants.{Source, Input, Schedule, Cells, Dual}
 
@@ -23,36 +27,56 @@ one_more texts text (Ok rest) = ap Ok (sym (append_assoc texts (text ∷ []) res
 one_more texts text (Err barred) = refl
 
 -- the texts from one on, by the first of them
-module _ (holds : Holds) (names : List (List ℕ)) (kinds : List Text) (k : ℕ) (name : List ℕ) (first : k < length names) (second : k < length kinds) (is : get_or names k name ≡ name) where
+module _ (holds : Holds) (files : List (String Global)) (kinds : List Text) (k : ℕ) (file : String Global) (first : k < length files) (second : k < length kinds) (is : get_or files k file ≡ file) where
+  abbrev names : List (List ℕ)
+  names = map string_bytes files
+
+  abbrev name : List ℕ
+  name = string_bytes file
+
   abbrev kind : Text
   kind = get_or kinds k Source
 
   opened : texts_at holds (drop k names) (drop k kinds) ≡ and_rest (text_at holds name kind) (texts_at holds (drop (suc k) names) (drop (suc k) kinds))
-  opened = ap (λ ns. texts_at holds ns (drop k kinds)) (drop-cons names k name first ∙ ap (λ n. n ∷ drop (suc k) names) is) ∙ ap (texts_at holds (name ∷ drop (suc k) names)) (drop-cons kinds k Source second)
+  opened = ap (λ ns. texts_at holds ns (drop k kinds)) (drop-cons names k name (omega (arith, first, length-map files string_bytes)) ∙ ap (λ n. n ∷ drop (suc k) names) (get_or-map string_bytes files k file ∙ ap string_bytes is)) ∙ ap (texts_at holds (name ∷ drop (suc k) names)) (drop-cons kinds k Source second)
 
   -- the next text is given
-  pub read_on : (texts : List (List ℕ)) (text : List ℕ) → text_at holds name kind ≡ Ok text
-      → before texts (texts_at holds (drop k names) (drop k kinds)) ≡ before (texts ++ text ∷ []) (texts_at holds (drop (suc k) names) (drop (suc k) kinds))
-  read_on texts text given =
+  pub read_on : (texts more : List (List ℕ)) (text : List ℕ) → text_at holds name kind ≡ Ok text → more ≡ texts ++ text ∷ []
+      → before texts (texts_at holds (drop k names) (drop k kinds)) ≡ before more (texts_at holds (drop (k + 1) names) (drop (k + 1) kinds))
+  read_on texts more text given added =
+      let next : suc k ≡ k + 1 = omega arith in
       ap (before texts) (opened ∙ ap (λ r. and_rest r (texts_at holds (drop (suc k) names) (drop (suc k) kinds))) given) ∙ one_more texts text (texts_at holds (drop (suc k) names) (drop (suc k) kinds))
+      ∙ ap (λ all. before all (texts_at holds (drop (suc k) names) (drop (suc k) kinds))) (sym added) ∙ ap (λ n. before more (texts_at holds (drop n names) (drop n kinds))) next
 
   -- the next text isn't given
   pub read_no_more : (texts : List (List ℕ)) (barred : Verdict) → text_at holds name kind ≡ Err barred → before texts (texts_at holds (drop k names) (drop k kinds)) ≡ Err barred
   read_no_more texts barred given = ap (before texts) (opened ∙ ap (λ r. and_rest r (texts_at holds (drop (suc k) names) (drop (suc k) kinds))) given)
 
+  -- why a text isn't given is why not all are
+  pub stops_reading : {X Y : Type 0} (meant : X → List ℕ) (all : Y → List (List ℕ)) (texts : List (List ℕ)) (why : Stop) → GivesRead meant (Err why) (text_at holds name kind)
+      → GivesRead all (Err why) (before texts (texts_at holds (drop k names) (drop k kinds)))
+  stops_reading meant all texts (stop.Refused line) given = read_no_more texts (Refused line) given
+  stops_reading meant all texts stop.ReadFault given = tt
+  stops_reading meant all texts stop.Memory given = tt
+
 -- no text has a higher limit
-limits : (kind : Text) → limit_of kind ≤ 33_554_432
+limits : (of : Text) → limit_of of ≤ 33_554_432
 limits Source = omega arith
 limits Input = omega arith
 limits Schedule = omega arith
 limits Cells = omega arith
 limits Dual = omega arith
 
-pub all_short : (texts : List (List ℕ)) (text : List ℕ) (kind : Text) → All (λ (t : List ℕ). length t ≤ 33_554_432) texts → length text ≤ limit_of kind → All (λ (t : List ℕ). length t ≤ 33_554_432) (texts ++ text ∷ [])
-all_short texts text kind short within = All-append (λ (t : List ℕ). length t ≤ 33_554_432) texts (text ∷ []) short (alone (omega (arith, within, limits kind)))
+pub one_longer : (texts more : List (List ℕ)) (text : List ℕ) (k : ℕ) → more ≡ texts ++ text ∷ [] → length texts ≡ k → length more ≡ k + 1
+one_longer texts more text k added count = ap length added ∙ (length-append texts (text ∷ []) ∙ ap (λ n. n + 1) count)
+
+pub all_short : (texts more : List (List ℕ)) (text : List ℕ) (of : Text) → more ≡ texts ++ text ∷ [] → All (λ (t : List ℕ). length t ≤ 33_554_432) texts → length text ≤ limit_of of
+    → All (λ (t : List ℕ). length t ≤ 33_554_432) more
+all_short texts more text of added short within =
+    subst (All (λ (t : List ℕ). length t ≤ 33_554_432)) (sym added) (All-append (λ (t : List ℕ). length t ≤ 33_554_432) texts (text ∷ []) short (alone (omega (arith, within, limits of))))
   where
     alone : length text ≤ 33_554_432 → All (λ (t : List ℕ). length t ≤ 33_554_432) (text ∷ [])
-    alone at 0 d lt = at
+    alone at zero d lt = at
     alone at (suc k) d lt = absurd (omega (arith, lt))
 
 -- ---- faults
@@ -72,3 +96,8 @@ then_read a b c first second = record {
 pub rises_since : (a b c : Faults) → HasReadCause ⊥ a b → Rises b.read c.read → Rises a.read c.read
 rises_since a b c first (inl rises) = inl (omega (arith, first.read.later, rises))
 rises_since a b c first (inr last) = inr last
+
+-- what is the cause of a later fault is that of the whole
+pub cause_since : {T : Type 0} (a b c : Faults) {one all : Type 0} → HasReadCause ⊥ a b → (T → one → all) → Rises b.read c.read ⊎ (T × one) → Rises a.read c.read ⊎ (T × all)
+cause_since a b c first on (inl rises) = inl (rises_since a b c first rises)
+cause_since a b c first on (inr (t, absent)) = inr (t, on t absent)
