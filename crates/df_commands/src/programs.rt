@@ -11,9 +11,9 @@ use crate::laws::{accepted_sources_bind_new_names, accepted_sources_keep_their_d
 use crate::refusals::refused;
 use crate::source_refusals::{refused_check, refused_parse, refused_place, refused_shape};
 use crate::stop::Stop;
-use df_grammar::parse;
 use df_core::flat::Flat;
 use df_flattened::laws::lowered_programs_are_flat;
+use df_grammar::parse;
 use df_inline::{InlineAnswer, inline};
 use df_lexer::{LexAnswer, lex};
 use df_shape::shape;

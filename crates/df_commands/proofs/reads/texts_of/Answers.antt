@@ -23,8 +23,8 @@ loop-k-preserved g c =
       mode = read.mode;
       holds = λ told. read.holds told ∙ inv.holds told;
       gives = λ told. inv.gives told
-      ∙ read_on (g.F.Files.told c.args.files.now).holds c.args.names.now c.args.kinds.now c.loop-k.k c.index-names-k.result within (omega (arith, within, c.requires.each)) (sym c.index-names-k.is) c.loop-k.texts.items c.add.new.texts.items c.in_ok-text.text
-      (subst (λ (h : Holds). text_at h (string_bytes c.index-names-k.result) (get_or c.args.kinds.now c.loop-k.k Source) ≡ Ok c.in_ok-text.text) (inv.holds told) (read.gives told)) c.in_ok-add.ensures;
+          ∙ read_on (g.F.Files.told c.args.files.now).holds c.args.names.now c.args.kinds.now c.loop-k.k c.index-names-k.result within (omega (arith, within, c.requires.each)) (sym c.index-names-k.is) c.loop-k.texts.items c.add.new.texts.items c.in_ok-text.text
+          (subst (λ (h : Holds). text_at h (string_bytes c.index-names-k.result) (get_or c.args.kinds.now c.loop-k.k Source) ≡ Ok c.in_ok-text.text) (inv.holds told) (read.gives told)) c.in_ok-add.ensures;
       count = one_longer c.loop-k.texts.items c.add.new.texts.items c.in_ok-text.text c.loop-k.k c.in_ok-add.ensures inv.count;
       short = all_short c.loop-k.texts.items c.add.new.texts.items c.in_ok-text.text (get_or c.args.kinds.now c.loop-k.k Source) c.in_ok-add.ensures inv.short read.short;
       counts = then_read (g.F.Files.faults c.args.files.now) (g.F.Files.faults c.loop-k.files) (g.F.Files.faults c.text_of.new.files) inv.counts read.counts;

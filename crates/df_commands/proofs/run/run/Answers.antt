@@ -12,5 +12,5 @@ returns-clause-settles c =
       task = RunCells run.cells run.texts.inputs.lists run.texts.schedule;
       judged = c.in_ok-cells.ensures.finds;
       does = c.of_text.ensures ∙ ap (λ text. record { files = []; text = text; is_done = c.in_ok-ran.ran.is_drained }) c.in_ok-ran.ensures.text
-      ∙ ap (λ done. record { files = []; text = report_text meant; is_done = done }) c.in_ok-ran.ensures.drained;
+          ∙ ap (λ done. record { files = []; text = report_text meant; is_done = done }) c.in_ok-ran.ensures.drained;
     }
