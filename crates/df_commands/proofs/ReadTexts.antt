@@ -3,10 +3,10 @@ use Rattle.std.proofs.Common.{◌≡◌, ◌∙◌, ◌⊎◌, inl, inr, ◌++�
 use Rattle.std.proofs.Math.ListN.{get_or-map}
 use Rattle.std.proofs.lemmas.List.{length-map}
 use Rattle.std.proofs.lemmas.List.Elements.{All-append}
-use Rattle.df_io.specs.Faults.{Faults, Counts, HasReadCause, Rises}
+use Rattle.df_io.specs.Faults.{Faults, HasReadCause, Rises}
 use Rattle.df_io.specs.Told.{Holds}
 use Rattle.df_commands.specs.Commands.{limit_of}
-use Rattle.df_commands.specs.Verdicts.{Verdict, Refused, Absent, text_at, texts_at, and_rest}
+use Rattle.df_commands.specs.Verdicts.{Verdict, Refused, text_at, texts_at, and_rest}
 use Rattle.df_commands.specs.Judged.{GivesRead}
 use Rattle.df_commands.specs.declared.stop.Stop.{Stop}
 use Rattle.df_commands.specs.declared.stop.Stop.TheVariants as stop

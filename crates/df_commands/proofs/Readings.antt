@@ -14,13 +14,13 @@ use Rattle.df_celltext.specs.declared.version.Version.TheVariants.{One, Two}
 use Rattle.df_commands.specs.Laws.{AcceptedSourcesBindNewNames, CellFilesHaveOneReading, CellFilesHaveReadings, DualFilesHaveOneReading, DualFilesHaveReadings, ProgramsHaveOneReading, ProgramsHaveReadings, HasOneVerdict, HasSomeVerdict}
 use Rattle.df_commands.specs.Lines.{refusal}
 use Rattle.df_commands.specs.Meanings.{decls_of, decls_by}
-use Rattle.df_commands.specs.Commands.{Order, texts_of}
+use Rattle.df_commands.specs.Commands.{texts_of}
 use Rattle.df_commands.specs.declared.command.Command.{Command}
 use Rattle.df_commands.specs.declared.command.Command.TheVariants.{Check, Eval, Go, Run, Verify, Migrate}
 use Rattle.df_commands.specs.ProgramTexts.{ReadsProgram}
 use Rattle.df_commands.specs.Sources.{ReadsSource}
 use Rattle.df_commands.specs.Texts.{input_reason, and_word, ReadsInputText, ReadsScheduleText, ReadsCellFile, ReadsDualFile}
-use Rattle.df_commands.specs.Verdicts.{Verdict, Refused, Accepted, Task, TellRight, TellMeaning, CompileAndRun, RunCells, TellLeast, WriteAnew, AfterText, AfterRead, Goes, JudgesInputs, JudgesGo, JudgesRun, JudgesVerify, JudgesEval, JudgesCheck, JudgesTexts, nth, texts_at}
+use Rattle.df_commands.specs.Verdicts.{Verdict, Refused, Accepted, Task, TellRight, TellMeaning, CompileAndRun, RunCells, TellLeast, WriteAnew, AfterText, AfterRead, Goes, JudgesInputs, JudgesGo, JudgesRun, JudgesVerify, JudgesEval, JudgesTexts, nth, texts_at}
 use Rattle.df_syntax.specs.SourceMeaning.{source_inputs}
 use Rattle.df_syntax.specs.declared.program.Program.{Program as Tree}
 use Rattle.df_commands.specs.declared.program.Program.{Program}

@@ -5,7 +5,6 @@ use Rattle.std.specs.Option.{option_map}
 use Rattle.std.specs.List.{list_all}
 use Rattle.std.proofs.lemmas.Bool.{false≢true}
 use Rattle.std.proofs.lemmas.List.{get_or-reverse, length-reverse}
-use Rattle.std.proofs.lemmas.List.Elements.{All-map, All-weaker}
 use Rattle.std.proofs.lemmas.List.Sums.{AllPass-from_list_all, list_all-from_AllPass}
 use Rattle.std.proofs.lemmas.Option.{slice_get-map}
 use Rattle.std.proofs.lemmas.Slice.Eq.{bytes_eq-Decides}
@@ -25,9 +24,6 @@ use Rattle.df_syntax.specs.FreshNames.{Taken, also, is_new, parameters_fresh, fu
 use Rattle.df_syntax.specs.SourceMeaning.{input_of, inputs_of, bound_value, main_inputs, source_inputs, source_mean}
 use Rattle.df_syntax.specs.SourceForms.{Constants, constants_of}
 use Rattle.df_syntax.specs.WellShaped.{IsPiped}
-use Rattle.df_syntax.specs.declared.piped.Block.{Block}
-use Rattle.df_syntax.specs.declared.piped.Body.{Body}
-use Rattle.df_syntax.specs.declared.piped.Body.TheVariants as body
 use Rattle.df_values.specs.declared.inputs.Input.{Input}
 use Rattle.df_syntax.specs.declared.piped.Piped.{Piped}
 use Rattle.df_syntax.specs.declared.program.Function.{Function}

@@ -1,5 +1,5 @@
 -- The flat program of a program in blocks is within the bounds.
-use Rattle.std.proofs.Common.{◌≡◌, ap, subst, arith, ℕ, zero, suc, ◌+◌, List, [], ◌∷◌, map, length, reverse, Option, Some, None, refl, bytes_eq}
+use Rattle.std.proofs.Common.{arith, ℕ, zero, suc, ◌+◌, List, [], ◌∷◌, length, reverse}
 use Rattle.df_names.specs.Maps.{Names, nothing}
 use Rattle.df_syntax.specs.declared.tree.Expr.{Expr}
 use Rattle.df_syntax.specs.declared.piped.Body as piped

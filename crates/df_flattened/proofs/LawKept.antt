@@ -1,7 +1,7 @@
 -- Lowering keeps the meaning: parameters, then block by block.
 use Rattle.std.proofs.Common.{◌≡◌, ◌∙◌, ap, sym, refl, subst, arith, ℕ, suc, ◌+◌, Bool, true, false, if◌then◌else◌, ◌&&◌, List, [], ◌∷◌, ◌++◌, map, length, reverse, append_assoc, Option, Some, None, bytes_eq, length-append}
 use Rattle.std.specs.Prelude.{slice_get, slice_index_or, All}
-use Rattle.std.proofs.lemmas.List.{append-nil, length-map}
+use Rattle.std.proofs.lemmas.List.{append-nil}
 use Rattle.df_names.specs.Maps.{Names, nothing, bind}
 use Rattle.df_values.specs.Inputs.{Declaration, IsAsDeclared, input_length, declared}
 use Rattle.df_values.specs.declared.values.Value.{Value}

@@ -1,6 +1,6 @@
 -- What all blocks make, and the results of blocks, where each block makes the same in both.
 use Rattle.std.proofs.Common.{◌≡◌, ◌∙◌, ap, sym, refl, arith, ℕ, zero, suc, ◌+◌, ◌-◌, ◌<◌, List, [], ◌∷◌, ◌++◌, map, fold, length, get_or, Option, Some, append_assoc, None, ap₂, reverse}
-use Rattle.std.proofs.lemmas.List.{append-nil, length-map}
+use Rattle.std.proofs.lemmas.List.{append-nil}
 use Rattle.std.proofs.Math.Seq.{get_or-append_right}
 use Rattle.df_names.specs.Maps.{Names, nothing}
 use Rattle.df_values.specs.declared.values.Value.{Value}

@@ -1,14 +1,11 @@
 -- Lowering keeps the meaning of programs in blocks, and gives flat programs within the bounds.
-use Rattle.std.specs.Prelude.{◌≡◌, List, map, All, bytes_eq}
-use Rattle.std.specs.List.{IsDistinct}
+use Rattle.std.specs.Prelude.{◌≡◌, List}
 use Rattle.df_values.specs.declared.values.Value.{Value}
-use Rattle.df_values.specs.declared.inputs.Input.{Input}
-use Rattle.df_values.specs.Inputs.{AreValid, HasExtent}
+use Rattle.df_values.specs.Inputs.{AreValid}
 use Rattle.df_syntax.specs.declared.piped.Piped.{Piped}
 use Rattle.df_syntax.specs.BlockMeaning.{mean}
 use Rattle.df_values.specs.Inputs.{declared}
 use Rattle.df_syntax.specs.WellShaped.{IsPiped}
-use Rattle.df_core.specs.declared.flat.Flat.{Flat}
 use Rattle.df_core.specs.Meaning.{flat_mean}
 use Rattle.df_core.specs.Within.{IsFlat}
 use Rattle.df_flattened.specs.Flattened.{flattened}

@@ -9,7 +9,6 @@ use Rattle.df_values.specs.declared.values.Value.TheVariants.{Int, Truth, Error}
 use Rattle.df_values.specs.declared.values.ErrorValue.{ErrorValue}
 use Rattle.df_values.specs.declared.values.Basic.{Basic}
 use Rattle.df_syntax.specs.declared.tree.Named.{Named}
-use Rattle.df_syntax.specs.declared.tree.Parameter.{Parameter}
 use Rattle.df_syntax.specs.declared.tree.Expr.{Expr}
 use Rattle.df_syntax.specs.declared.tree.Link.{Link}
 use Rattle.df_syntax.specs.declared.tree.Arm.{Arm}

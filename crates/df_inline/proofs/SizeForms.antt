@@ -8,7 +8,6 @@ use Rattle.df_values.specs.declared.kinds.Rel.{Rel}
 use Rattle.df_values.specs.declared.kinds.Test.{Test}
 use Rattle.df_syntax.specs.declared.tree.Named.{Named}
 use Rattle.df_syntax.specs.declared.tree.Sort.{Sort}
-use Rattle.df_syntax.specs.declared.tree.Parameter.{Parameter}
 use Rattle.df_syntax.specs.declared.tree.Expr.{Expr}
 use Rattle.df_syntax.specs.declared.tree.Link.{Link}
 use Rattle.df_syntax.specs.declared.tree.Arm.{Arm}

@@ -1,11 +1,9 @@
 -- One turn more of the lowering's loops.
-use Rattle.std.proofs.Common.{◌≡◌, ◌∙◌, ap, ap₂, sym, refl, arith, ℕ, suc, ◌+◌, ◌<◌, List, [], ◌∷◌, ◌++◌, map, fold, take, length, get_or, bytes_eq, if◌then◌else◌, Option, Some, None}
+use Rattle.std.proofs.Common.{◌≡◌, ◌∙◌, ap, ap₂, sym, refl, arith, ℕ, suc, ◌+◌, ◌<◌, List, [], ◌∷◌, ◌++◌, fold, take, length, get_or, Option, Some, None}
 use Rattle.std.proofs.Math.Path.{fun_ext}
 use Rattle.std.proofs.lemmas.List.{map-append, length-take-le}
 use Rattle.std.proofs.lemmas.List.Sums.{fold-append}
 use Rattle.df_names.specs.Maps.{bind}
-use Rattle.df_syntax.specs.declared.tree.Named.{Named}
-use Rattle.df_syntax.specs.declared.tree.Sort.{Sort}
 use Rattle.df_syntax.specs.declared.tree.Expr.{Expr}
 use Rattle.df_syntax.specs.declared.tree.Definition.{Definition}
 use Rattle.df_syntax.specs.Meaning.{Name}
@@ -14,7 +12,7 @@ use Rattle.df_flattened.specs.declared.standing.Standing.{Standing}
 use Rattle.df_flattened.specs.declared.standing.Standing.TheVariants.{Local}
 use Rattle.df_flattened.specs.Flattened.{Scope, Bodies, Beside, bound, deeper, define, let_of, arguments_of, called, flatten}
 use Rattle.df_inline.specs.declared.names.Binding.{Binding}
-use Rattle.df_inline.specs.Bindings.{later_standing, standing_at, scope_of}
+use Rattle.df_inline.specs.Bindings.{later_standing, scope_of}
 use Rattle.df_inline.specs.Lowered.{besides, listed, at_depth, behind, only_of}
 use Rattle.df_syntax.proofs.Pushed.{taken}
 

@@ -1,4 +1,4 @@
-use Rattle.std.proofs.Common.{◌≡◌, ◌∙◌, [], true, refl, ap}
+use Rattle.std.proofs.Common.{◌∙◌, [], true, ap}
 use Rattle.df_iotext.specs.Printed.{result_lines}
 use Rattle.df_commands.specs.Verdicts.{TellMeaning}
 use Rattle.df_commands.proofs.SourcesMeant.{meant}

@@ -1,11 +1,10 @@
-use Rattle.std.proofs.Common.{◌≡◌, ◌∙◌, ◌⊎◌, ◌<◌, inl, inr, map, length, get_or, List, Result, Ok, Err, Vec, Global, string_bytes, refl, sym, ap, subst, arith}
+use Rattle.std.proofs.Common.{◌≡◌, ◌∙◌, ◌<◌, length, get_or, Result, Ok, Err, Vec, Global, string_bytes, sym, ap, subst, arith}
 use Rattle.std.proofs.lemmas.Result.{err_from_is_err_and}
 use Rattle.df_io.specs.Told.{Holds}
 use Rattle.df_commands.specs.Judged.{GivesRead}
 use Rattle.df_values.specs.declared.bytes.Bytes.{Bytes}
 use Rattle.df_commands.specs.Verdicts.{Absent, text_at}
 use Rattle.df_commands.specs.declared.command.Text.TheVariants.{Source}
-use Rattle.df_commands.specs.declared.stop.Stop.{Stop}
 use Rattle.df_commands.specs.declared.stop.Stop.TheVariants as stop
 use Rattle.df_commands.proofs.ReadTexts.{read_on, read_no_more, stops_reading, one_longer, all_short, then_read, cause_since}
 use Rattle.df_commands.proofs.reads.texts_of.Goals as goal

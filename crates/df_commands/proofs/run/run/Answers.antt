@@ -1,4 +1,4 @@
-use Rattle.std.proofs.Common.{◌≡◌, ◌∙◌, [], refl, ap}
+use Rattle.std.proofs.Common.{◌∙◌, [], ap}
 use Rattle.df_commands.specs.Compiled.{run_of}
 use Rattle.df_commands.specs.Reports.{report_text}
 use Rattle.df_commands.specs.Verdicts.{RunCells}

@@ -1,4 +1,4 @@
-use Rattle.std.proofs.Common.{◌≡◌, ◌∙◌, [], true, refl, ap}
+use Rattle.std.proofs.Common.{◌∙◌, [], true, ap}
 use Rattle.df_commands.specs.Verdicts.{TellLeast}
 use Rattle.df_commands.proofs.verify.verify.Goals as goal
 

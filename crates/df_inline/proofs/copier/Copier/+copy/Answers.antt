@@ -1,13 +1,8 @@
-use Rattle.std.proofs.Common.{◌≡◌, ◌+◌, refl, sym, ◌∙◌, ap, ap₂, arith, reverse, map, fold, List, []}
-use Rattle.df_syntax.specs.declared.tree.Link.{Link}
-use Rattle.df_syntax.specs.declared.tree.Arm.{Arm}
+use Rattle.std.proofs.Common.{◌≡◌, ◌+◌, refl, sym, ◌∙◌, ap, ap₂, arith, reverse, fold, List, []}
 use Rattle.df_syntax.proofs.Pushed.{pushed}
 use Rattle.df_values.specs.declared.kinds.Binary.TheVariants.{Operation}
 use Rattle.df_core.specs.declared.terms.Term.{Term}
-use Rattle.df_core.specs.declared.terms.Term.TheVariants as t
-use Rattle.df_core.specs.declared.terms.Step.{Step}
-use Rattle.df_core.specs.declared.terms.Branch.{Branch}
-use Rattle.df_flattened.specs.Flattened.{Scope, bodies, flatten, define}
+use Rattle.df_flattened.specs.Flattened.{Scope, bodies, define}
 use Rattle.df_inline.specs.Bindings.{scope_of}
 use Rattle.df_inline.specs.Lowered.{step_of, branch_of, besides, listed, behind, only_of}
 use Rattle.df_inline.proofs.Forms.{name_is, access, call, chain, chosen, let_is}

@@ -1,5 +1,5 @@
 use Rattle.std.proofs.Common.{◌≡◌, ◌≤◌, ◌+◌, take, map, reverse, length, fold, []}
-use Rattle.df_flattened.specs.Flattened.{flatten, bodies, arguments_of, define}
+use Rattle.df_flattened.specs.Flattened.{bodies, arguments_of, define}
 use Rattle.df_inline.specs.Bindings.{scope_of}
 use Rattle.df_inline.specs.Lowered.{step_of, branch_of, besides, listed}
 use Rattle.df_inline.proofs.copier.Copier.+copy.Given as goal

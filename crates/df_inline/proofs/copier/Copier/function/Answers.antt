@@ -1,8 +1,8 @@
 use Rattle.std.proofs.Common.{◌≡◌, ◌∙◌, ap, sym, reverse, None, arith, length, take}
 use Rattle.std.proofs.Math.Seq.{take-length}
-use Rattle.df_flattened.specs.Flattened.{Scope, flatten, bodies, only_body, parameters_scope}
+use Rattle.df_flattened.specs.Flattened.{Scope, bodies, parameters_scope}
 use Rattle.df_inline.specs.Bindings.{scope_of}
-use Rattle.df_inline.specs.Lowered.{at_depth, besides, only_of}
+use Rattle.df_inline.specs.Lowered.{besides, only_of}
 use Rattle.df_inline.proofs.Bound.{parameters_more, only_given}
 use Rattle.df_inline.proofs.copier.Copier.function.Goals as goal
 

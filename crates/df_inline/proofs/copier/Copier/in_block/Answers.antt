@@ -1,7 +1,7 @@
-use Rattle.std.proofs.Common.{◌≡◌, ◌∙◌, ap, reverse, Some}
+use Rattle.std.proofs.Common.{◌∙◌, ap, reverse, Some}
 use Rattle.df_flattened.specs.declared.standing.Standing.TheVariants.{Index}
-use Rattle.df_flattened.specs.Flattened.{Scope, flatten, bodies}
-use Rattle.df_inline.specs.Bindings.{scope_of, standing_at}
+use Rattle.df_flattened.specs.Flattened.{flatten, bodies}
+use Rattle.df_inline.specs.Bindings.{scope_of}
 use Rattle.df_inline.proofs.Bound.{standing_more}
 use Rattle.df_inline.proofs.copier.Copier.in_block.Goals as goal
 
