@@ -1,4 +1,8 @@
 //! What comes of a case, against what has to.
+ghost use Rattle.std.specs.Prelude.{◌≡◌, OnOk};
+ghost use Rattle.df_io.specs.MemFiles.{mode_of};
+ghost use Rattle.df_io.specs.declared.files.FileMode.{FileMode};
+
 use crate::cases::{Calls, Case, Role, Text};
 use df_io::{MemFiles, MemSink};
 use df_top::valflow;
@@ -36,7 +40,11 @@ fn wrong_file<'a>(case: &'a Case, files: &MemFiles) -> Option<&'a str> {
     None
 }
 
-fn add(files: &mut MemFiles, text: &Text) -> io::Result<()> {
+// Puts a text there as a file.
+fn add(files: &mut MemFiles, text: &Text) -> io::Result<()>
+    requires { mode_of files.old ≡ FileMode.Idle }
+    ensures { OnOk result (mode_of files.new ≡ FileMode.Idle) }
+{
     match files.add(text.name.clone()?, text.bytes.clone()?) {
         Ok(()) => Ok(()),
         Err(Memory) => Err(io::Error::from(ErrorKind::OutOfMemory)),
