@@ -10,7 +10,7 @@ use Rattle.df_cells.specs.Cells.{no_cell, cell_at, cell_from, port_of, producer_
 use Rattle.df_cells.specs.Paths.{HasArc, IsPath, Reaches, AreMarks, mark_of, HasMarks}
 use Rattle.df_cells.specs.WellFormed.{ListsItsArcs, NamesWithin, AreRising}
 use Rattle.df_wellformed.specs.Loops.{AreRightMarks}
-use Rattle.df_labels.specs.Finishing.{AreBare, ListsSoFar, MarkedSoFar}
+use Rattle.df_labels.specs.Finishing.{AreBare, ArcsWithin, ListsSoFar, MarkedSoFar}
 use Rattle.df_labels.specs.Graphs.{node_of, graph_of}
 use Rattle.df_labels.proofs.Listing.{all_listed, arcs_kept, names_within}
 
@@ -109,7 +109,7 @@ arcs_listed old new same u lists =
           subst (λ (l : List Dest). (i : ℕ) × (i < length l) × (get_or l i d ≡ d)) (sym dests) at;
     }
 
-graphs_equal : (xs ys : List Cell) → length xs ≡ length ys → ((c : ℕ) → node_of (cell_at xs c) ≡ node_of (cell_at ys c)) → graph_of xs ≡ graph_of ys
+pub graphs_equal : (xs ys : List Cell) → length xs ≡ length ys → ((c : ℕ) → node_of (cell_at xs c) ≡ node_of (cell_at ys c)) → graph_of xs ≡ graph_of ys
 graphs_equal [] [] count each = refl
 graphs_equal [] (y ∷ ys) count each = absurd (omega arith)
 graphs_equal (x ∷ xs) [] count each = absurd (omega arith)
@@ -125,13 +125,13 @@ pub record AreFinished (cells : List Cell) : Type 0 where
   pub dest : (c : ℕ) → c < length cells → ListsItsArcs cells c
   pub loop : HasMarks cells
 
-pub finished : (old now new : List Cell) (marks : List ℕ) → AreBare old → ListsSoFar old (length old) 0 now → AreRightMarks now marks → MarkedSoFar now marks (length now) new → AreFinished new
-finished old now new marks bare listed right marked =
+pub finished : (old now new : List Cell) (marks : List ℕ) → AreBare old → ArcsWithin old → ListsSoFar old (length old) 0 now → AreRightMarks now marks → MarkedSoFar now marks (length now) new → AreFinished new
+finished old now new marks bare within listed right marked =
     let same = same_from_marked now new marks marked in
     let producers = same_producer now new same in
     let lists = λ (u : ℕ). arcs_listed now new same u (all_listed old now listed u) in
     let arcs = λ (c p : ℕ) (u : CellId) (fed : producer_of new (port_of c p) ≡ Some u).
-    subst (λ n. u.0 < n) (sym same.count) (arcs_kept old now listed.same bare.arcs c p u (sym (producers (port_of c p)) ∙ fed)) in
+    subst (λ n. u.0 < n) (sym same.count) (arcs_kept old now listed.same within c p u (sym (producers (port_of c p)) ∙ fed)) in
     record {
       stage = λ c. ap (λ (cell : Cell). cell.stage) (same.each c) ∙ ap (λ (cell : Cell). cell.stage) (listed.same.each c) ∙ bare.stage c;
       port = λ c within. names_within new arcs lists c;
@@ -143,3 +143,8 @@ pub finished_graph : (old now new : List Cell) (marks : List ℕ) → ListsSoFar
 finished_graph old now new marks listed marked =
     let same = same_from_marked now new marks marked in
     graphs_equal new now same.count (λ c. ap node_of (same.each c)) ∙ graphs_equal now old listed.same.count (λ c. ap node_of (listed.same.each c))
+
+-- cells whose arcs are within, and which list them, name cells that are there
+pub listed_within : (old now : List Cell) → ArcsWithin old → ListsSoFar old (length old) 0 now → (c : ℕ) → c < length now → NamesWithin now c
+listed_within old now within listed c less =
+    names_within now (arcs_kept old now listed.same within) (λ u. all_listed old now listed u) c

@@ -11,7 +11,6 @@ ArcsWithin cells = (c p : ℕ) (u : CellId) → producer_of cells (port_of c p) 
 
 -- cells that have only their kinds and feeds so far
 pub record AreBare (cells : List Cell) : Type 0 where
-  pub arcs : ArcsWithin cells
   pub stage : (c : ℕ) → (cell_at cells c).stage ≡ 0
   pub dests : (c : ℕ) → (cell_at cells c).dests ≡ []
 
@@ -33,4 +32,10 @@ pub record ListsSoFar (old : List Cell) (v p : ℕ) (new : List Cell) : Type 0 w
 pub record MarkedSoFar (old : List Cell) (marks : List ℕ) (n : ℕ) (new : List Cell) : Type 0 where
   pub count : length new ≡ length old
   pub marked : (c : ℕ) → c < n → cell_at new c ≡ record (cell_at old c) { mark = get_or marks c 0 }
+  pub others : (c : ℕ) → n ≤ c → cell_at new c ≡ cell_at old c
+
+-- the same cells but for stage and destinations of the first n, which have none
+pub record ClearedSoFar (old : List Cell) (n : ℕ) (new : List Cell) : Type 0 where
+  pub count : length new ≡ length old
+  pub cleared : (c : ℕ) → c < n → cell_at new c ≡ record (cell_at old c) { stage = 0; dests = [] }
   pub others : (c : ℕ) → n ≤ c → cell_at new c ≡ cell_at old c
