@@ -1,15 +1,20 @@
 -- Balanced cells, least buffers, and the certificate that shows both.
-use Rattle.std.specs.Prelude.{◌≡◌, ℕ, ◌+◌, ◌<◌, ℤ, pos, ◌≤ℤ◌, true, List, length, get_or, Some}
+use Rattle.std.specs.Prelude.{◌≡◌, ℕ, ◌+◌, ◌*◌, ◌<◌, ℤ, pos, ◌≤ℤ◌, cond, true, List, length, get_or, Some}
 use Rattle.df_cells.specs.declared.cells.CellId.{CellId}
 use Rattle.df_cells.specs.declared.cells.Cell.{Cell}
 use Rattle.df_cells.specs.Cells.{cell_at, port_of, producer_of}
 use Rattle.df_cells.specs.Cells.{is_buf}
+use Rattle.df_cells.specs.Shifts.{origin, gate_part}
 use Rattle.df_stages.specs.Nodes.{node_of}
 use Rattle.df_stages.specs.Skeletons.{nodes, arcs, buffers}
 use Rattle.df_stages.specs.Flows.{AreBalancedArcs, Respects, total_excess, IsDualFlow, flow_value}
 
 abbrev pub stage_of : List Cell → ℕ → ℕ
 stage_of cells c = (cell_at cells c).stage
+
+-- the stage of a cell; behind a gate, a BUF cell counts twice what the gate leaves out
+abbrev pub height : List Cell → ℕ → ℕ
+height cells c = stage_of cells c + cond (is_buf cells c) (2 * gate_part cells (origin cells c)) 0
 
 -- the stages of the nodes, by their places: that of a node is that of its least cell
 abbrev pub node_stages : List Cell → ℕ → ℤ
