@@ -14,7 +14,7 @@ use Rattle.df_machine.specs.Seen.{Loaded}
 use Rattle.df_labels.specs.Histories.{IsPrefix}
 use Rattle.df_histories.specs.Reached.{IsReached}
 use Rattle.df_stages.specs.Balance.{IsBalanced}
-use Rattle.df_machine.specs.Laws.{HasAllResults}
+use Rattle.df_machine.specs.Laws.{TellsPossible, HasAllResults}
 use Rattle.df_histories.specs.Laws.{NeverClashes, FollowsLabels, ResultsHaveOutputs}
 use Rattle.df_rank.specs.Ranks.{rank}
 use Rattle.df_labels.specs.Realizes.{Outcome, Meaning, count_of, IsAll, Realizes}
@@ -71,12 +71,15 @@ realizing_cells_are_good faithful drains all outs cells meaning w balanced reali
 
 -- ---- of a tracked machine
 
-pub label_results : DrainsWhole → (t : Loaded) → IsReached t → possible t.cells t.state ≡ 0 → HasLabelResults t
-label_results drains t reached none labels balanced meet places =
-    subst (HoldsAll t.cells labels) (sym reached.after_these)
-    (drains t.cells t.inputs labels reached.choices reached.well_formed reached.fits balanced meet places (subst (λ s. possible t.cells s ≡ 0) reached.after_these none))
+possible_here : TellsPossible → (t : Loaded) (reached : IsReached t) → possible t.cells t.state ≡ 0 → possible t.cells (after t.cells t.inputs reached.choices) ≡ 0
+possible_here tells t reached none = sym (tells t.cells t.inputs reached.choices reached.well_formed) ∙ subst (λ s. possible t.cells s ≡ 0) reached.after_these none
 
-pub whole_results : RealizingCellsAreGood → (t : Loaded) → IsReached t → possible t.cells t.state ≡ 0 → HasWholeResults t
-whole_results good t reached none meaning balanced realizes k =
+pub label_results : TellsPossible → DrainsWhole → (t : Loaded) → IsReached t → possible t.cells t.state ≡ 0 → HasLabelResults t
+label_results tells drains t reached none labels balanced meet places =
+    subst (HoldsAll t.cells labels) (sym reached.after_these)
+    (drains t.cells t.inputs labels reached.choices reached.well_formed reached.fits balanced meet places (possible_here tells t reached none))
+
+pub whole_results : TellsPossible → RealizingCellsAreGood → (t : Loaded) → IsReached t → possible t.cells t.state ≡ 0 → HasWholeResults t
+whole_results tells good t reached none meaning balanced realizes k =
     subst (λ s. IsAll (get_or s.results k []) (meaning t.inputs) k) (sym reached.after_these)
-    ((good t.cells meaning reached.well_formed balanced realizes).whole t.inputs reached.choices k reached.fits (subst (λ s. possible t.cells s ≡ 0) reached.after_these none))
+    ((good t.cells meaning reached.well_formed balanced realizes).whole t.inputs reached.choices k reached.fits (possible_here tells t reached none))

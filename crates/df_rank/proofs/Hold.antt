@@ -2,7 +2,7 @@
 use Rattle.std.proofs.Common.{◌≡◌, ◌≢◌, ◌⊎◌, ℕ, zero, suc, ◌+◌, ◌<◌, ◌≤◌, ◌-◌, true, false, List, [], ◌∷◌, ◌++◌, get_or, length, map, Contains, Option, Some, None, refl, sym, ◌∙◌, ap, subst, inl, inr, arith}
 use Rattle.std.specs.Prelude.{is_some, ℤ, All}
 use Rattle.std.specs.List.{AllByRecursion}
-use Rattle.std.proofs.lemmas.Option.{same_Some}
+use Rattle.std.proofs.lemmas.Option.{same_Some, none-some}
 use Rattle.df_values.specs.declared.values.Value.{Value}
 use Rattle.df_values.specs.declared.values.Value.TheVariants.{Truth, Error}
 use Rattle.df_values.specs.declared.values.ErrorValue.TheVariants as error
@@ -244,6 +244,21 @@ no_buffer (suc (suc (suc (suc zero)))) h is = cc
 no_buffer (suc (suc (suc (suc (suc zero))))) h is = cc
 no_buffer (suc (suc (suc (suc (suc (suc c)))))) h is = absurd (omega arith)
 
+unloaded : (c p : ℕ) → loaded_at hold (port_of c p) ≡ None
+unloaded zero p = refl
+unloaded (suc zero) zero = refl
+unloaded (suc zero) (suc zero) = refl
+unloaded (suc zero) (suc (suc zero)) = refl
+unloaded (suc zero) (suc (suc (suc p))) = refl
+unloaded (suc (suc zero)) p = refl
+unloaded (suc (suc (suc zero))) zero = refl
+unloaded (suc (suc (suc zero))) (suc zero) = refl
+unloaded (suc (suc (suc zero))) (suc (suc p)) = refl
+unloaded (suc (suc (suc (suc zero)))) p = refl
+unloaded (suc (suc (suc (suc (suc zero))))) zero = refl
+unloaded (suc (suc (suc (suc (suc zero))))) (suc p) = refl
+unloaded (suc (suc (suc (suc (suc (suc c)))))) p = refl
+
 formed : WellFormed hold
 formed = record {
   shaped = record { few = omega arith; each = shaped };
@@ -254,6 +269,7 @@ formed = record {
   out = λ c h. counts_results c;
   loop = marks;
   buffer = λ c h is. absurd (no_buffer c h is);
+  load = λ c h. record { on_loop = λ p u v fed lies. absurd (none-some v (sym (unloaded c p) ∙ lies)) };
 }
 
 -- ---- balanced
@@ -374,6 +390,7 @@ meet v c = record {
   arcs = λ p u fed. (joins_at v c p u fed).0;
   shifts = λ p u fed. (joins_at v c p u fed).1;
   right = right_at v c;
+  unloaded = unloaded c;
   outputs = λ k n is. let o = only_out c k n is in let n' = o.2 in let e = ap (λ e. length (labels v e)) o.0 in omega arith;
 }
 

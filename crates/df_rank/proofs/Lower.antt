@@ -8,10 +8,8 @@ use Rattle.df_values.specs.declared.values.Value.{Value}
 use Rattle.df_values.specs.Inputs.{AreValid}
 use Rattle.df_cells.specs.declared.cells.CellId.{CellId}
 use Rattle.df_cells.specs.declared.cells.Dest.{Dest}
-use Rattle.df_cells.specs.declared.cells.Feed.{Feed}
-use Rattle.df_cells.specs.declared.cells.Feed.TheVariants.{Arc, Constant}
 use Rattle.df_cells.specs.declared.cells.Cell.{Cell}
-use Rattle.df_cells.specs.Cells.{cell_from, cell_at, port_of, producer_of, loaded_at, loaded_from, declarations}
+use Rattle.df_cells.specs.Cells.{cell_from, port_of, producer_of, loaded_at, declarations}
 use Rattle.df_cells.specs.WellFormed.{WellFormed}
 use Rattle.df_machine.specs.declared.packets.Packet.{Packet}
 use Rattle.df_machine.specs.States.{place, firings}
@@ -47,10 +45,8 @@ given labels u n = size (λ f. f.answer) (labels u) n
 abbrev pub took_by : Labels → Dest → ℕ → ℕ
 took_by labels d n = size (λ f. get_or f.taken d.port.0 None) (labels d.cell.0) n
 
-not_loaded : (f : Option Feed) → length (listed (loaded_from f)) ≡ 0
-not_loaded None = refl
-not_loaded (Some (Arc u)) = refl
-not_loaded (Some (Constant v)) = refl
+not_loaded : (cells : List Cell) (inputs : List (List Value)) (labels : Labels) → LabelsMeet cells inputs labels → (d : Dest) → length (listed (loaded_at cells d)) ≡ 0
+not_loaded cells inputs labels meet d = ap (λ (o : Option Value). length (listed o)) ((meet d.cell.0).unloaded d.port.0)
 
 length_listed : (o : Option Value) → length (listed o) ≡ bit (is_some o)
 length_listed None = refl
@@ -69,16 +65,16 @@ pub totals : (cells : List Cell) (inputs : List (List Value)) (labels : Labels) 
 totals cells inputs labels meet d u fed =
     let e = ap (λ (l : List Value). length l) ((meet d.cell.0).arcs d.port.0 u fed) in
     let a = length-append (listed (loaded_at cells d)) (stream_values (answered (labels u.0))) in
-    let zero' = not_loaded (slice_get (cell_at cells d.cell.0).ports d.port.0) in
+    let zero' = not_loaded cells inputs labels meet d in
     let m = length-map (answered (labels u.0)) (λ x. x.1) in
     let n = length-map (received d.port.0 (labels d.cell.0)) (λ x. x.1) in
     let g = size_all (λ f. f.answer) (labels u.0) in
     let t = size_all (λ f. get_or f.taken d.port.0 None) (labels d.cell.0) in
     omega arith
 
-pub pairs : (cells : List Cell) (labels : Labels) (d : Dest) (u i j : ℕ) → given labels u (suc i) ≡ suc (given labels u i) → took_by labels d (suc j) ≡ suc (took_by labels d j)
+pub pairs : (cells : List Cell) (labels : Labels) (d : Dest) (u i j : ℕ) → length (listed (loaded_at cells d)) ≡ 0 → given labels u (suc i) ≡ suc (given labels u i) → took_by labels d (suc j) ≡ suc (took_by labels d j)
     → given labels u i ≡ took_by labels d j → Pairs cells labels d u i j
-pairs cells labels d u i j gives takes' same = let zero' = not_loaded (slice_get (cell_at cells d.cell.0).ports d.port.0) in record { gives = gives; takes = takes'; same = omega arith }
+pairs cells labels d u i j zero' gives takes' same = record { gives = gives; takes = takes'; same = omega arith }
 
 -- an earlier firing of a cell has no higher rank
 pub earlier_lower : (cells : List Cell) (labels : Labels) (rank : ℕ → ℕ → ℕ) → IsRanked cells labels rank → (c i j : ℕ) → i ≤ j → j < length (labels c) → rank c i ≤ rank c j
@@ -112,7 +108,7 @@ module _ (follows : FollowsLabels) (give : LabelsGiveHistories) (wait : Disabled
       let left = length-append (listed (loaded_at cells d)) (stream_values front) in
       let right = length-append (stream_values behind) (listed (place s d) ++ []) in
       let last = ap (λ (l : List Value). length l) (append-nil (listed (place s d))) in
-      let zero' = not_loaded (slice_get (cell_at cells d.cell.0).ports d.port.0) in
+      let zero' = not_loaded cells inputs labels b.meet d in
       let one = length_listed (place s d) in
       let m = length-map front (λ x. x.1) in let n = length-map behind (λ x. x.1) in
       omega arith
@@ -134,7 +130,7 @@ module _ (follows : FollowsLabels) (give : LabelsGiveHistories) (wait : Disabled
       let begun = (agrees cells inputs labels choices b).begun u.0 in
       let r = step (given labels u.0) m (length (labels u.0)) (took_by labels d n) (λ k. (size_next (λ f. f.answer) (labels u.0) k).1) begun (omega arith) (omega arith) in
       let i = r.0 in
-      let pair = pairs cells labels d u.0 i n (r.4 ∙ ap suc (sym r.3)) one r.3 in
+      let pair = pairs cells labels d u.0 i n (not_loaded cells inputs labels b.meet d) (r.4 ∙ ap suc (sym r.3)) one r.3 in
       let low = ranked.operands d u i n fed pair in
       let first = earlier_lower cells labels rank ranked u.0 m i r.1 r.2 in
       let within = (b.w.port c (end_within cells d u fed)).feeds p u fed in
@@ -156,7 +152,7 @@ module _ (follows : FollowsLabels) (give : LabelsGiveHistories) (wait : Disabled
       let begun = (agrees cells inputs labels choices b).begun v in
       let g = step (given labels c) 0 n (took_by labels d m) (λ k. (size_next (λ f. f.answer) (labels c) k).1) (omega arith) (omega arith) (omega arith) in
       let t = step (took_by labels d) m (length (labels v)) (took_by labels d m) (λ k. (size_next (λ f. get_or f.taken d.port.0 None) (labels v) k).1) begun (omega arith) (omega arith) in
-      let pair = pairs cells labels d c g.0 t.0 (g.4 ∙ ap suc (sym g.3)) (t.4 ∙ ap suc (sym t.3)) (g.3 ∙ sym t.3) in
+      let pair = pairs cells labels d c g.0 t.0 (not_loaded cells inputs labels b.meet d) (g.4 ∙ ap suc (sym g.3)) (t.4 ∙ ap suc (sym t.3)) (g.3 ∙ sym t.3) in
       let low = ranked.acknowledgements d u g.0 t.0 n fed pair g.2 left in
       let first = earlier_lower cells labels rank ranked v m t.0 t.1 t.2 in
       (v, end_within cells d u fed, omega (arith, t.1, t.2), omega arith)

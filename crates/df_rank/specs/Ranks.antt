@@ -1,6 +1,5 @@
 -- The rank of a firing.
-use Rattle.std.specs.Prelude.{◌≡◌, ℕ, ◌+◌, ◌*◌, ◌<◌, ◌==◌, nat_lt, cond, List, [], ◌∷◌, length, Some}
-use Rattle.std.specs.List.{count_by}
+use Rattle.std.specs.Prelude.{◌≡◌, ℕ, ◌+◌, ◌*◌, ◌<◌, nat_lt, cond, List, [], ◌∷◌, length, Some}
 use Rattle.df_cells.specs.declared.cells.CellId.{CellId}
 use Rattle.df_cells.specs.declared.cells.Cell.{Cell}
 use Rattle.df_cells.specs.declared.cells.Dest.{Dest}
