@@ -21,8 +21,8 @@ use Rattle.df_cells.specs.WellFormed.{WellFormed}
 use Rattle.df_stages.specs.declared.skeleton.SkeletonArc.{SkeletonArc}
 use Rattle.df_stages.specs.Nodes.{same_node, node_of, is_node}
 use Rattle.df_stages.specs.Skeletons.{node_place, arc_from, arcs_at_ports, arcs_into, arcs}
-use Rattle.df_stages.specs.Flows.{IsBalancedArc}
-use Rattle.df_stages.specs.Balance.{stage_of, node_stages, height, IsBalanced}
+use Rattle.df_stages.specs.Flows.{difference, IsBalancedArc}
+use Rattle.df_stages.specs.Balance.{stage_of, node_stages, rise_of, height, IsBalanced}
 use Rattle.df_stages.proofs.Backs.{back_stays, back_moves, no_buffers}
 use Rattle.df_stages.proofs.Parts.{own_origin, begins, fed_within, origin_within}
 use Rattle.df_stages.proofs.Named.{named}
@@ -30,8 +30,8 @@ use Rattle.df_stages.proofs.Marks.{node_within}
 use Rattle.df_stages.proofs.Joined.{Comes, joined, reaches_then, origin_comes}
 use Rattle.df_stages.proofs.Ranges.{filtered_more}
 use Rattle.df_stages.proofs.Forward.{over_more, in_pieces}
-use Rattle.df_stages.proofs.Skeletal.{arc_of}
-use Rattle.df_stages.specs.Laws.{HeightsRise, HeightsStay}
+use Rattle.df_stages.proofs.Skeletal.{IsArcOf, arc_of, all_arcs}
+use Rattle.df_stages.specs.Laws.{EndsHaveStages, HeightsRise, HeightsStay}
 
 abbrev bit : Bool → ℕ
 bit b = cond b 1 0
@@ -140,13 +140,30 @@ at_count p (suc n) i below passes =
     front (x ∷ xs) ys zero h = refl
     front (x ∷ xs) ys (suc k) h = front xs ys k (omega arith)
 
+-- where each cell has the stage of its node's least cell, a node has that of each of its cells
+module _ (cells : List Cell) (well_formed : WellFormed cells) (level : (c : ℕ) → c < length cells → stage_of cells c ≡ stage_of cells (node_of cells c)) where
+  level_stage : (c : ℕ) → c < length cells → is_buf cells c ≡ false → node_stages cells (node_place cells c) ≡ pos (stage_of cells c)
+  level_stage c within other =
+      let h = node_of cells c in
+      let node : is_node cells h ≡ true = named cells well_formed c within other in
+      ap (λ k. pos (stage_of cells k)) (at_count (is_node cells) (length cells) h (node_within cells c within) node) ∙ ap (λ n. pos n) (sym (level c within))
+
+  end_stages : (arc : SkeletonArc) → IsArcOf cells arc → (u : CellId) × (producer_of cells arc.name ≡ Some u) × (difference (node_stages cells) arc ≡ rise_of cells arc u)
+  end_stages arc of =
+      let in' = fed_within cells well_formed of.name of.via of.within of.fed in
+      let from = level_stage (origin cells of.via.0) (origin_within cells well_formed of.via.0 in') (begins cells well_formed of.via.0 in') in
+      let to = level_stage of.name.cell.0 of.within of.other in
+      let whole : (u : CellId) × (producer_of cells (arc_of cells of.name of.via).name ≡ Some u) × (difference (node_stages cells) (arc_of cells of.name of.via) ≡ rise_of cells (arc_of cells of.name of.via) u) =
+      (of.via, of.fed, ap (λ z. z -ℤ node_stages cells (node_place cells (origin cells of.via.0))) to ∙ ap (λ z. pos (stage_of cells of.name.cell.0) -ℤ z) from) in
+      subst (λ (a : SkeletonArc). (u : CellId) × (producer_of cells a.name ≡ Some u) × (difference (node_stages cells) a ≡ rise_of cells a u)) (sym of.is) whole
+
+pub ends_have_stages : EndsHaveStages
+ends_have_stages cells well_formed level k d l = end_stages cells well_formed level (get_or (arcs cells) k d) (all_arcs cells k d l)
+
 -- cells of one node have one mark, and one stage where they are balanced
 module _ (cells : List Cell) (well_formed : WellFormed cells) (balanced : IsBalanced cells) where
   node_stage : (c : ℕ) → c < length cells → is_buf cells c ≡ false → node_stages cells (node_place cells c) ≡ pos (stage_of cells c)
-  node_stage c within other =
-      let h = node_of cells c in
-      let node : is_node cells h ≡ true = named cells well_formed c within other in
-      ap (λ k. pos (stage_of cells k)) (at_count (is_node cells) (length cells) h (node_within cells c within) node) ∙ ap (λ n. pos n) (sym (balanced.nodes c within))
+  node_stage c within other = level_stage cells well_formed balanced.nodes c within other
 
   -- a marked cell is no BUF cell
   marked_other : (c : ℕ) → c < length cells → mark_of cells c ≢ 0 → is_buf cells c ≡ false
