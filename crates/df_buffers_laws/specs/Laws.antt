@@ -1,0 +1,34 @@
+-- Laws of BUF cells on the arcs of a skeleton.
+use Rattle.std.specs.Prelude.{◌≡◌, ℕ, ℤ, List, All}
+use Rattle.df_cells.specs.declared.cells.Cell.{Cell}
+use Rattle.df_cells.specs.WellFormed.{IsPort, WellFormed}
+use Rattle.df_stages.specs.declared.skeleton.SkeletonArc.{SkeletonArc}
+use Rattle.df_stages.specs.Skeletons.{arcs, skeleton_of}
+use Rattle.df_cancel.specs.Balances.{numbered, IsBalance}
+use Rattle.df_labels.specs.Graphs.{graph_of, HasArcs}
+use Rattle.df_buffers_laws.specs.Insertions.{buffered}
+use Rattle.df_buffers_laws.specs.Buffered.{HasNoBuffers, IsBuffered}
+use Rattle.df_buffers_laws.specs.Nodes.{HasCountedNodes}
+use Rattle.df_buffers_laws.specs.Placed.{counts_of, AreMade, ArePlaced}
+
+abbrev pub CountsNodes : Type 0
+CountsNodes = (cells : List Cell) → HasCountedNodes cells
+
+-- each arc of a skeleton is named by a port
+abbrev pub EndsAtPorts : Type 0
+EndsAtPorts = (cells : List Cell) → All (λ (arc : SkeletonArc). IsPort cells arc.name) (arcs cells)
+
+-- cells of the graph with its buffers have BUF cells on the arcs between nodes: on each as many as its excess
+abbrev pub StandOnArcs : Type 0
+StandOnArcs = (old new : List Cell) (numbers : ℕ → ℤ) → WellFormed old → HasNoBuffers old
+    → graph_of new ≡ buffered (graph_of old) (arcs old) numbers → IsBuffered old new (counts_of old numbers)
+
+-- in the graph with its buffers each arc still comes from a cell
+abbrev pub KeepsArcs : Type 0
+KeepsArcs = (old : List Cell) (numbers : ℕ → ℤ) → WellFormed old → HasNoBuffers old
+    → HasArcs (buffered (graph_of old) (arcs old) numbers)
+
+-- where BUF cells were placed by a balance, the cells stay well-formed, and are balanced
+abbrev pub PlacesBuffers : Type 0
+PlacesBuffers = (old new : List Cell) (stages : List ℤ) (flow : List ℕ) → WellFormed old → HasNoBuffers old
+    → IsBalance (skeleton_of old) stages flow → AreMade old new (numbered stages) → ArePlaced old new stages flow
