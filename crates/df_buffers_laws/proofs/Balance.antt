@@ -32,7 +32,7 @@ int_sum_from f a (x ∷ xs) =
     int_sum_from f (a +ℤ f x) xs ∙ +ℤ_assoc a (f x) (int_sum_by f xs)
     ∙ ap (λ z. a +ℤ z) (sym (int_sum_from f (pos 0 +ℤ f x) xs ∙ ap (λ z. z +ℤ int_sum_by f xs) (+ℤ_idl (f x))))
 
-int_sum-cons : {X : Type 0} (f : X → ℤ) (x : X) (xs : List X) → int_sum_by f (x ∷ xs) ≡ f x +ℤ int_sum_by f xs
+pub int_sum-cons : {X : Type 0} (f : X → ℤ) (x : X) (xs : List X) → int_sum_by f (x ∷ xs) ≡ f x +ℤ int_sum_by f xs
 int_sum-cons f x xs = int_sum_from f (pos 0 +ℤ f x) xs ∙ ap (λ z. z +ℤ int_sum_by f xs) (+ℤ_idl (f x))
 
 -- ---- what doesn't see the BUF cells of arcs

@@ -54,6 +54,14 @@ count_single q f a (suc n) i h k others =
       | inr other ↦ whole ∙ ap (λ m. m + count_by q (flat_map f (range_with_len (a + 1) n))) (others a other) ∙ none_and (count_by q (flat_map f (range_with_len (a + 1) n))) ∙ count_single q f (a + 1) n i (omega (arith, other)) (omega arith) others
     ]
 
+-- as many as the excess
+pub natural_is : (z w : ℤ) → w ≤ℤ z → z -ℤ w ≡ pos (natural (z -ℤ w))
+natural_is z w h = by (z -ℤ w) refl
+  where
+    by : (n : ℤ) → z -ℤ w ≡ n → n ≡ pos (natural n)
+    by (pos n) e = refl
+    by (negsuc n) e = absurd (omega (arith, ints))
+
 -- ---- copies of names
 
 module _ (cells : List Cell) (numbers : ℕ → ℤ) where
@@ -107,14 +115,6 @@ module _ (cells : List Cell) (numbers : ℕ → ℤ) where
       ∙ ap (λ l. count_by q (flat_map copies l)) stands.only
       ∙ ap (count_by q) (append-nil (copies arc))
       ∙ count_copies q (natural (excess numbers arc)) d (same_itself d)
-
-  -- as many as the excess
-  natural_is : (z w : ℤ) → w ≤ℤ z → z -ℤ w ≡ pos (natural (z -ℤ w))
-  natural_is z w h = by (z -ℤ w) refl
-    where
-      by : (n : ℤ) → z -ℤ w ≡ n → n ≡ pos (natural n)
-      by (pos n) e = refl
-      by (negsuc n) e = absurd (omega (arith, ints))
 
   pub filled_by : Respects numbers (arcs cells)
       → All (λ arc. excess numbers arc ≡ pos (count_by (same_port arc.name) (ports_to_buffer (arcs cells) numbers)))

@@ -17,5 +17,6 @@ pub mod Labelled
 pub mod NodeCounts
 pub mod Skeleton
 pub mod Balance
+pub mod PortSums
 pub mod Rules
 pub mod Together

@@ -1,12 +1,13 @@
 -- Laws of BUF cells on the arcs of a skeleton.
-use Rattle.std.specs.Prelude.{◌≡◌, ℕ, ℤ, List, All}
+use Rattle.std.specs.Prelude.{◌≡◌, ℕ, ℤ, pos, List, length, All}
 use Rattle.df_cells.specs.declared.cells.Cell.{Cell}
 use Rattle.df_cells.specs.WellFormed.{IsPort, WellFormed}
 use Rattle.df_stages.specs.declared.skeleton.SkeletonArc.{SkeletonArc}
+use Rattle.df_stages.specs.Flows.{Respects, total_excess}
 use Rattle.df_stages.specs.Skeletons.{arcs, skeleton_of}
 use Rattle.df_cancel.specs.Balances.{numbered, IsBalance}
 use Rattle.df_labels.specs.Graphs.{graph_of, HasArcs}
-use Rattle.df_buffers_laws.specs.Insertions.{buffered}
+use Rattle.df_buffers_laws.specs.Insertions.{ports_to_buffer, buffered}
 use Rattle.df_buffers_laws.specs.Buffered.{HasNoBuffers, IsBuffered}
 use Rattle.df_buffers_laws.specs.Nodes.{HasCountedNodes}
 use Rattle.df_buffers_laws.specs.Placed.{counts_of, AreMade, ArePlaced}
@@ -17,6 +18,11 @@ CountsNodes = (cells : List Cell) → HasCountedNodes cells
 -- each arc of a skeleton is named by a port
 abbrev pub EndsAtPorts : Type 0
 EndsAtPorts = (cells : List Cell) → All (λ (arc : SkeletonArc). IsPort cells arc.name) (arcs cells)
+
+-- as many ports are buffered as the sum of the excesses
+abbrev pub CountsPorts : Type 0
+CountsPorts = (arcs : List SkeletonArc) (numbers : ℕ → ℤ) → Respects numbers arcs
+    → pos (length (ports_to_buffer arcs numbers)) ≡ total_excess numbers arcs
 
 -- cells of the graph with its buffers have BUF cells on the arcs between nodes: on each as many as its excess
 abbrev pub StandOnArcs : Type 0

@@ -1,5 +1,5 @@
 //! Where inserted BUF cells stand, and what holds of cells that have them.
-ghost use Rattle.df_buffers_laws.specs.Laws.{CountsNodes, EndsAtPorts, KeepsArcs, StandOnArcs, PlacesBuffers};
+ghost use Rattle.df_buffers_laws.specs.Laws.{CountsNodes, CountsPorts, EndsAtPorts, KeepsArcs, StandOnArcs, PlacesBuffers};
 
 use df_stages::laws::{certifies_least, has_skeletons};
 use df_wellformed::laws::marks_are_unique;
@@ -7,6 +7,11 @@ use df_wellformed::laws::marks_are_unique;
 /// Each node is named by its least cell, and nodes are counted from cell to cell.
 pub fn counts_nodes()
     ensures { CountsNodes }
+{}
+
+/// There are as many ports to buffer as the sum of the excesses, where no excess is negative.
+pub fn counts_ports()
+    ensures { CountsPorts }
 {}
 
 /// Each arc of a skeleton is named by a port of the cells.
