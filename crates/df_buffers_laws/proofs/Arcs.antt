@@ -1,6 +1,7 @@
 -- The arcs on which BUF cells are placed: each leads from node to node, and no value is loaded there.
-use Rattle.std.proofs.Common.{◌≡◌, ◌≢◌, ℕ, ◌==◌, ◌&&◌, not, ℤ, true, false, List, All, length, Option, Some, None, inl, inr, refl, sym, ap, ◌∙◌, eqb, eq-eqb}
+use Rattle.std.proofs.Common.{◌≡◌, ◌≢◌, ℕ, ◌<◌, ◌==◌, ◌&&◌, not, ℤ, true, false, List, All, length, Option, Some, None, inl, inr, refl, sym, ap, subst, ◌∙◌, arith, eqb, eq-eqb}
 use Rattle.std.proofs.lemmas.Bool.{cases_lt, or_right, and_from, ne_eqb}
+use Rattle.std.proofs.lemmas.List.{length-map}
 use Rattle.std.proofs.lemmas.Option.{same_Some}
 use Rattle.df_values.specs.declared.values.Value.{Value}
 use Rattle.df_cells.specs.declared.cells.CellId.{CellId}
@@ -12,6 +13,7 @@ use Rattle.df_cells.specs.Cells.{cell_from, loaded_from, feed_of, loaded_at, pro
 use Rattle.df_cells.specs.Paths.{mark_of}
 use Rattle.df_cells.specs.Shifts.{origin}
 use Rattle.df_cells.specs.WellFormed.{WellFormed}
+use Rattle.df_labels.specs.Graphs.{Node, node_of, graph_of, HasPort}
 use Rattle.df_labels.specs.Finishing.{ArcsWithin}
 use Rattle.df_stages.specs.declared.skeleton.SkeletonArc.{SkeletonArc}
 use Rattle.df_stages.specs.Nodes.{same_node}
@@ -22,7 +24,7 @@ use Rattle.df_buffers_laws.proofs.Origins.{origin_stays}
 use Rattle.df_buffers_laws.proofs.Paths.{none_past}
 use Rattle.df_buffers_laws.proofs.AtPorts.{Stands}
 use Rattle.df_buffers_laws.proofs.Counts.{ports_are}
-use Rattle.df_buffers_laws.proofs.Tables.{IsFed}
+use Rattle.df_buffers_laws.proofs.Tables.{IsFed, node_is}
 
 -- cells of one loop are in one node
 pub one_loop : (cells : List Cell) (u c : ℕ) → mark_of cells u ≡ mark_of cells c → mark_of cells c ≢ 0
@@ -75,3 +77,12 @@ module _ (old : List Cell) (well_formed : WellFormed old) (plain : HasNoBuffers 
       let one : stands.via ≡ u = same_Some stands.via u (sym stands.fed ∙ fed) in
       ap (λ (k : CellId). same_node old k.0 arc.name.cell.0) (sym one)
       ∙ ap (λ k. same_node old k arc.name.cell.0) (sym (straight arc.name stands.via stands.fed)) ∙ stands.apart)
+
+pub at_ports : (cells : List Cell) (numbers : ℕ → ℤ)
+    → All (HasPort (graph_of cells)) (ports_to_buffer (arcs cells) numbers)
+at_ports cells numbers = ports_are cells numbers (HasPort (graph_of cells)) (λ arc stands.
+    let inside = stands.inside in
+    let long = length-map cells node_of in (
+      omega arith,
+      subst (λ (n : Node). arc.name.port.0 < length n.ports) (sym (node_is cells arc.name.cell.0)) stands.there,
+    ))

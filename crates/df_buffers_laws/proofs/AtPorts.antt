@@ -5,7 +5,6 @@ use Rattle.df_cells.specs.declared.cells.CellId.{CellId}
 use Rattle.df_cells.specs.declared.cells.Cell.{Cell}
 use Rattle.df_cells.specs.declared.cells.Dest.{Dest}
 use Rattle.df_cells.specs.Cells.{cell_at, port_of, producer_of, is_buf}
-use Rattle.df_cells.specs.WellFormed.{IsPort}
 use Rattle.df_cells.specs.Shifts.{origin, buffers_from, weight}
 use Rattle.df_stages.specs.declared.skeleton.SkeletonArc.{SkeletonArc}
 use Rattle.df_stages.specs.Nodes.{same_node}
@@ -72,7 +71,3 @@ module _ (cells : List Cell) where
 
   pub all_stand : All Stands (arcs cells)
   all_stand = all_pieces Stands (arcs_into cells) 0 (length cells) (λ c k l. cell_arcs c (omega arith))
-
-pub at_ports : (cells : List Cell) → All (λ (arc : SkeletonArc). IsPort cells arc.name) (arcs cells)
-at_ports cells = All-weaker (Stands cells) (λ (arc : SkeletonArc). IsPort cells arc.name) (λ arc stands. (stands.inside, stands.there))
-    (arcs cells) (all_stand cells)

@@ -9,7 +9,7 @@ use Rattle.std.proofs.lemmas.List.Elements.{All-head, All-tail, All-map}
 use Rattle.std.proofs.lemmas.List.Sums.{sum_by-cons}
 use Rattle.df_cells.specs.declared.cells.Cell.{Cell}
 use Rattle.df_cells.specs.declared.cells.Dest.{Dest}
-use Rattle.df_cells.specs.Cells.{no_cell}
+use Rattle.df_cells.specs.Cells.{no_cell, port_of}
 use Rattle.df_cells.specs.Paths.{mark_of}
 use Rattle.df_cells.specs.Shifts.{first_from}
 use Rattle.df_stages.specs.Sums.{int_sum_by}
@@ -22,6 +22,8 @@ use Rattle.df_buffers_laws.specs.Buffered.{IsBuffered}
 use Rattle.df_buffers_laws.specs.Filled.{filled}
 use Rattle.df_buffers_laws.specs.Nodes.{HasCountedNodes}
 use Rattle.df_buffers_laws.specs.Staged.{HasStages}
+use Rattle.df_buffers_laws.proofs.Origins.{plain}
+use Rattle.df_buffers_laws.proofs.Tables.{fed_inside}
 use Rattle.df_buffers_laws.proofs.Skeleton.{nodes_stay, node_stays, arcs_stay}
 
 -- ---- sums
@@ -148,7 +150,12 @@ module _ (old new : List Cell) (count : Dest → ℕ) (is : IsBuffered old new c
   balanced = record {
     arcs = subst (AreBalancedArcs (node_stages new)) (sym (arcs_stay old new count is marks least))
         (All-map (IsBalancedArc (node_stages new)) (filled count) (arcs old) (λ k d h. balanced_arc (get_or (arcs old) k d) (ends k d h) (fills k d h)));
-    buffers = staged.buffers;
+    buffers = λ b u is_one fed.
+        let inside = fed_inside new (port_of b 0) u fed in
+        elim (cases_lt b (length old)) [
+          | inl here ↦ let no = plain old new count is b here in absurd (cc)
+          | inr behind ↦ staged.buffers b u behind inside fed
+        ];
     nodes = λ c h. elim (cases_lt c (length old)) [
       | inl here ↦ one_stage c here ∙ ap (stage_of new) (sym (node_stays old new count is marks least c here))
       | inr behind ↦ ap (stage_of new) (sym (ap (λ m. cond (m == 0) c (first_from (λ (cell : Cell). cell.mark == mark_of new c) 0 new)) (unmarked c behind)))

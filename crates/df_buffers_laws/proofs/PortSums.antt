@@ -3,7 +3,6 @@ use Rattle.std.proofs.Common.{◌≡◌, ℕ, ◌+◌, ℤ, pos, ◌+ℤ◌, ◌
 use Rattle.std.proofs.lemmas.Int.{ints}
 use Rattle.std.proofs.lemmas.List.{length-replicate}
 use Rattle.std.proofs.lemmas.List.Elements.{All-head, All-tail}
-use Rattle.df_cells.specs.declared.cells.Dest.{Dest}
 use Rattle.df_stages.specs.declared.skeleton.SkeletonArc.{SkeletonArc}
 use Rattle.df_stages.specs.Flows.{difference, excess, Respects, total_excess}
 use Rattle.df_buffers_laws.specs.Insertions.{natural, ports_to_buffer}

@@ -1,12 +1,12 @@
 -- Laws of BUF cells on the arcs of a skeleton.
 use Rattle.std.specs.Prelude.{◌≡◌, ℕ, ℤ, pos, List, length, All}
 use Rattle.df_cells.specs.declared.cells.Cell.{Cell}
-use Rattle.df_cells.specs.WellFormed.{IsPort, WellFormed}
+use Rattle.df_cells.specs.WellFormed.{WellFormed}
 use Rattle.df_stages.specs.declared.skeleton.SkeletonArc.{SkeletonArc}
 use Rattle.df_stages.specs.Flows.{Respects, total_excess}
 use Rattle.df_stages.specs.Skeletons.{arcs, skeleton_of}
 use Rattle.df_cancel.specs.Balances.{numbered, IsBalance}
-use Rattle.df_labels.specs.Graphs.{graph_of, HasArcs}
+use Rattle.df_labels.specs.Graphs.{graph_of, HasArcs, HasPort}
 use Rattle.df_buffers_laws.specs.Insertions.{ports_to_buffer, buffered}
 use Rattle.df_buffers_laws.specs.Buffered.{HasNoBuffers, IsBuffered}
 use Rattle.df_buffers_laws.specs.Nodes.{HasCountedNodes}
@@ -15,9 +15,10 @@ use Rattle.df_buffers_laws.specs.Placed.{counts_of, AreMade, ArePlaced}
 abbrev pub CountsNodes : Type 0
 CountsNodes = (cells : List Cell) → HasCountedNodes cells
 
--- each arc of a skeleton is named by a port
+-- each port to buffer is one of the graph
 abbrev pub EndsAtPorts : Type 0
-EndsAtPorts = (cells : List Cell) → All (λ (arc : SkeletonArc). IsPort cells arc.name) (arcs cells)
+EndsAtPorts =
+    (cells : List Cell) (numbers : ℕ → ℤ) → All (HasPort (graph_of cells)) (ports_to_buffer (arcs cells) numbers)
 
 -- as many ports are buffered as the sum of the excesses
 abbrev pub CountsPorts : Type 0

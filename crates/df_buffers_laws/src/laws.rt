@@ -14,7 +14,7 @@ pub fn counts_ports()
     ensures { CountsPorts }
 {}
 
-/// Each arc of a skeleton is named by a port of the cells.
+/// Each port to buffer is one of the graph.
 pub fn ends_at_ports()
     ensures { EndsAtPorts }
 {}
