@@ -1,0 +1,10 @@
+pub mod Insertions
+pub mod Buffered
+pub mod Carried
+pub mod Filled
+pub mod Staged
+pub mod HasSkeleton
+pub mod Placed
+pub mod Nodes
+pub mod Rows
+pub mod Laws
