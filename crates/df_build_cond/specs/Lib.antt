@@ -1,0 +1,5 @@
+pub mod Growth
+pub mod Gates
+pub mod Tables
+pub mod Arms
+pub mod OpenArms
