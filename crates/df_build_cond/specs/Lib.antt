@@ -7,3 +7,4 @@ pub mod Counting
 pub mod Within
 pub mod Made
 pub mod Orderly
+pub mod Laws

@@ -1,6 +1,6 @@
 -- Orderly graphs: each cell has a zone, a number that falls along no arc. Along an arc within a zone the turn is equal and the
 -- number of the cell rises, or the turn rises by one and the number falls, or no value passes.
-use Rattle.std.specs.Prelude.{◌≡◌, ◌<◌, ◌⊎◌, ℕ, false, List, [], length, get_or, slice_get, Option, Some, None}
+use Rattle.std.specs.Prelude.{◌≡◌, ◌<◌, ◌⊎◌, ◌+◌, ◌++◌, ℕ, false, List, [], length, get_or, slice_get, Option, Some, None}
 use Rattle.std.specs.List.{AllByRecursion}
 use Rattle.df_values.specs.declared.values.Value.{Value}
 use Rattle.df_cells.specs.declared.cells.CellId.{CellId}
@@ -47,3 +47,10 @@ pub record Orderly (zones : List ℕ) (graph : Graph) : Type 0 where
 
 abbrev pub IsOrderly : Graph → Type 0
 IsOrderly graph = (zones : List ℕ) × Orderly zones graph
+
+-- a graph with more cells, whose arcs are in their zones, is orderly where the graph was
+abbrev pub ZonesExtend : Type 0
+ZonesExtend = (graph new : Graph) (zones more : List ℕ) → Orderly zones graph → length more ≡ length new
+    → ((i p : ℕ) (u : CellId) → cell_from (slice_get (node_at new i).ports p) ≡ Some u
+    → (u.0 < length graph + length new) × KeepsZone (graph ++ new) (zones ++ more) (length graph + i) p u.0)
+    → Orderly (zones ++ more) (graph ++ new)
