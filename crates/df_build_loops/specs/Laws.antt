@@ -7,6 +7,7 @@ use Rattle.df_build_cond.specs.Growth.{Grown, whole}
 use Rattle.df_build_cond.specs.Counting.{over_stood, over_grown}
 use Rattle.df_build_cond.specs.Within.{ArcsBelow, FlowBelow, StandsAfter}
 use Rattle.df_build_cond.specs.Made.{AreMade}
+use Rattle.df_build_cond.specs.Orderly.{IsOrderly}
 use Rattle.df_build_loops.specs.Holds.{held}
 use Rattle.df_build_loops.specs.Frames.{opened, previous, closed, last}
 use Rattle.df_build_loops.specs.Folds.{Loop, loop_begun, loop_ended}
@@ -65,3 +66,11 @@ pub record LoopsAreMade : Type 0 where
   pub begun : (first : Flow) (n : ℕ) (graph : Graph) → n ≤ 65535 → AreMade graph → AreMade (loop_begun whole first n graph).graph
   pub closed : (graph : Graph) (merge : ℕ) (next : Flow) → AreMade graph → AreMade (closed graph merge next)
   pub ended : (op : Op) (merge gate n : ℕ) (body : Grown) → n ≤ 65535 → AreMade body.graph → AreMade (loop_ended whole op merge gate n body).graph
+
+-- ---- zones; a loop that is not closed yet is none
+
+pub record LoopsAreOrderly : Type 0 where
+  pub held : (graph : Graph) (scalar n : ℕ) → 2 ≤ n → scalar < length graph → IsOrderly graph → IsOrderly (held whole graph scalar n).graph
+  pub opened : (graph : Graph) (first : Flow) (n : ℕ) → FlowBelow (length graph) first → IsOrderly graph → IsOrderly (opened whole graph first n).graph
+  pub previous : (graph : Graph) (merge n : ℕ) → merge < length graph → IsOrderly graph → IsOrderly (previous whole graph merge n).graph
+  pub last : (graph : Graph) (all n : ℕ) → all < length graph → IsOrderly graph → IsOrderly (last whole graph all n).graph
