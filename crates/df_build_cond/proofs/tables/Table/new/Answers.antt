@@ -1,0 +1,5 @@
+use Rattle.df_build_cond.proofs.Standing.{no_entries}
+use Rattle.df_build_cond.proofs.tables.Table.new.Goals as goal
+
+pub returns : goal.returns
+returns c = no_entries c.new.result c.new.ensures.empty

@@ -1,0 +1,10 @@
+pub mod Growth
+pub mod Gates
+pub mod Tables
+pub mod Arms
+pub mod OpenArms
+pub mod Counting
+pub mod Within
+pub mod Made
+pub mod Orderly
+pub mod Laws
