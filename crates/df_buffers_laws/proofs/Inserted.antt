@@ -27,7 +27,7 @@ use Rattle.df_buffers_laws.proofs.Tables.{IsFed, fed_inside, node_is, same_feeds
 abbrev bit : Bool → ℕ
 bit b = cond b 1 0
 
-no_buffers : (cells : List Cell) (n c : ℕ) → is_buf cells c ≡ false → buffers_over cells n c ≡ 0
+pub no_buffers : (cells : List Cell) (n c : ℕ) → is_buf cells c ≡ false → buffers_over cells n c ≡ 0
 no_buffers cells zero c e = refl
 no_buffers cells (suc n) c e =
     let here : bit (is_buf cells c) ≡ 0 = ap bit e in

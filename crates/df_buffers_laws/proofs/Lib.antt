@@ -20,3 +20,4 @@ pub mod Balance
 pub mod PortSums
 pub mod Rules
 pub mod Together
+pub mod SameSkeletons

@@ -39,3 +39,8 @@ KeepsArcs = (old : List Cell) (numbers : ℕ → ℤ) → WellFormed old → Has
 abbrev pub PlacesBuffers : Type 0
 PlacesBuffers = (old new : List Cell) (stages : List ℤ) (flow : List ℕ) → WellFormed old → HasNoBuffers old
     → IsBalance (skeleton_of old) stages flow → AreMade old new (numbered stages) → ArePlaced old new stages flow
+
+-- cells of one graph without BUF cells have one skeleton
+abbrev pub SameSkeletons : Type 0
+SameSkeletons = (one other : List Cell) → WellFormed one → WellFormed other → HasNoBuffers one → HasNoBuffers other
+    → graph_of one ≡ graph_of other → arcs one ≡ arcs other

@@ -1,5 +1,5 @@
 //! Where inserted BUF cells stand, and what holds of cells that have them.
-ghost use Rattle.df_buffers_laws.specs.Laws.{CountsNodes, CountsPorts, EndsAtPorts, KeepsArcs, StandOnArcs, PlacesBuffers};
+ghost use Rattle.df_buffers_laws.specs.Laws.{CountsNodes, CountsPorts, EndsAtPorts, KeepsArcs, StandOnArcs, PlacesBuffers, SameSkeletons};
 
 use df_stages::laws::{certifies_least, has_skeletons};
 use df_wellformed::laws::marks_are_unique;
@@ -37,4 +37,12 @@ pub fn places_buffers()
     marks_are_unique();
     has_skeletons();
     certifies_least();
+}
+
+/// Cells of one graph have one skeleton, whatever their stages are.
+pub fn same_skeletons()
+    ensures { SameSkeletons }
+{
+    marks_are_unique();
+    has_skeletons();
 }
