@@ -1,0 +1,6 @@
+pub mod Outer
+pub mod Building
+pub mod Built
+pub mod Seen
+pub mod Parts
+pub mod Rows
