@@ -1,2 +1,4 @@
 pub mod Standing
 pub mod WindowLemmas
+pub mod Meetings
+pub mod WindowCells

@@ -1,3 +1,4 @@
 pub mod Windows
 pub mod Elements
 pub mod Accesses
+pub mod Laws

@@ -6,4 +6,5 @@
 
 pub mod accesses;
 pub mod elements;
+pub mod laws;
 pub mod windows;

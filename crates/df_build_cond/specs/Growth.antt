@@ -19,6 +19,10 @@ pub record Grown : Type 0 where
 abbrev pub node : Kind → List Flow → Node
 node it flows = record { kind = it; ports = map feed_of flows }
 
+-- all of a node is kept
+abbrev pub whole : Node → Node
+whole node = node
+
 module _ (keep : Node → Node) where
   -- one cell more at the end
   abbrev pub with_cell : Graph → Kind → List Flow → Graph

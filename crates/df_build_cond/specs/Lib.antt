@@ -3,3 +3,8 @@ pub mod Gates
 pub mod Tables
 pub mod Arms
 pub mod OpenArms
+pub mod Counting
+pub mod Within
+pub mod Made
+pub mod Orderly
+pub mod Laws

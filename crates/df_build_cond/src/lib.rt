@@ -7,5 +7,6 @@
 pub mod arms;
 pub mod gates;
 pub mod kinds;
+pub mod laws;
 pub mod ruled;
 pub mod tables;
