@@ -200,5 +200,8 @@ cross_orderly level g (arm ∷ rest) flow arcs all below o =
       | false ↦ pass_orderly arm outer.graph outer.flow (arm_more (length g) _ good.more arm all.0) good.flow (cross_orderly level g rest flow arcs all.1 below o)
     ]
 
+above : (zones : List ℕ) → (z : ℕ) × ((c : ℕ) → zone_at zones c < z)
+above zones = (total zones + 1, λ c. let l = under_total zones c in omega (arith, l))
+
 pub gates_are_orderly : GatesAreOrderly
-gates_are_orderly = record { extended = zones_extend; cell = cell_orderly; ruled = ruled_orderly; pass = pass_orderly; cross = cross_orderly }
+gates_are_orderly = record { extended = zones_extend; above = above; cell = cell_orderly; ruled = ruled_orderly; pass = pass_orderly; cross = cross_orderly }

@@ -1,5 +1,5 @@
 -- What is known of graphs with gates, MERGE cells and arms.
-use Rattle.std.specs.Prelude.{◌≡◌, ◌≤◌, ◌+◌, ℕ, ℤ, Bool, List, [], ◌∷◌, map, length}
+use Rattle.std.specs.Prelude.{◌≡◌, ◌≤◌, ◌<◌, ◌+◌, ℕ, ℤ, Bool, List, [], ◌∷◌, map, length}
 use Rattle.std.specs.List.{AllByRecursion}
 use Rattle.df_values.specs.declared.values.Value.{Value}
 use Rattle.df_values.specs.declared.values.Basic.{Basic}
@@ -20,7 +20,7 @@ use Rattle.df_build_cond.specs.Arms.{Arm, pass, cross}
 use Rattle.df_build_cond.specs.Counting.{over_stood, over_passed, over_crossed}
 use Rattle.df_build_cond.specs.Within.{ArcsBelow, FlowBelow, ArmBelow, StandsAfter, PassesAfter, CrossesAfter}
 use Rattle.df_build_cond.specs.Made.{AreOrdinary, IsMade, AreMade}
-use Rattle.df_build_cond.specs.Orderly.{IsOrderly, ZonesExtend}
+use Rattle.df_build_cond.specs.Orderly.{zone_at, IsOrderly, ZonesExtend}
 
 -- ---- where less is kept of nodes, the graph is the same but for nodes
 
@@ -84,6 +84,8 @@ pub record GatesAreMade : Type 0 where
 
 pub record GatesAreOrderly : Type 0 where
   pub extended : ZonesExtend
+  -- there is a zone above all
+  pub above : (zones : List ℕ) → (z : ℕ) × ((c : ℕ) → zone_at zones c < z)
   pub cell : (graph : Graph) (it : Kind) (flows : List Flow) → AllByRecursion (FlowBelow (length graph)) flows
       → IsOrderly graph → IsOrderly (with_cell whole graph it flows)
   pub ruled : (graph : Graph) (it : Kind) (flows : List Flow) (runs : List Run) → AllByRecursion (FlowBelow (length graph)) flows

@@ -1,0 +1,4 @@
+pub mod Counted
+pub mod Arcs
+pub mod Made
+pub mod Zones

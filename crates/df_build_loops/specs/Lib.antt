@@ -1,3 +1,4 @@
 pub mod Holds
 pub mod Frames
 pub mod Folds
+pub mod Laws

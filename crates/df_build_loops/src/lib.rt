@@ -8,3 +8,4 @@
 pub mod folds;
 pub mod frames;
 pub mod holds;
+pub mod laws;
