@@ -27,19 +27,23 @@ module _ (keep : Node → Node) (so otherwise : Building → Built) (s : Buildin
   unfolding decide
   on_true v t a b c = ap (decide keep so otherwise s) (a ∙ ap Constant (b ∙ ap Truth c))
 
-  pub on_false : (v : Value) (t : Bool) → f ≡ Constant v → v ≡ Truth t → t ≡ false → decide keep so otherwise s f ≡ otherwise s
+  pub on_false : (v : Value) (t : Bool) → f ≡ Constant v → v ≡ Truth t → t ≡ false
+      → decide keep so otherwise s f ≡ otherwise s
   unfolding decide
   on_false v t a b c = ap (decide keep so otherwise s) (a ∙ ap Constant (b ∙ ap Truth c))
 
-  pub on_number : (v : Value) (i : ℤ) → f ≡ Constant v → v ≡ Int i → decide keep so otherwise s f ≡ at s (Constant undef)
+  pub on_number : (v : Value) (i : ℤ) → f ≡ Constant v → v ≡ Int i
+      → decide keep so otherwise s f ≡ at s (Constant undef)
   unfolding decide
   on_number v i a b = ap (decide keep so otherwise s) (a ∙ ap Constant b)
 
-  pub on_error : (v : Value) (e : ErrorValue) → f ≡ Constant v → v ≡ Error e → decide keep so otherwise s f ≡ at s (Constant undef)
+  pub on_error : (v : Value) (e : ErrorValue) → f ≡ Constant v → v ≡ Error e
+      → decide keep so otherwise s f ≡ at s (Constant undef)
   unfolding decide
   on_error v e a b = ap (decide keep so otherwise s) (a ∙ ap Constant b)
 
-  pub on_cell : (c : ℕ) (s1 s2 s3 s4 : Building) (value : Flow) → f ≡ Cell c → s1 ≡ enter c true s → at s2 value ≡ so s1 → s3 ≡ leave s2 → s4 ≡ enter c false s3
+  pub on_cell : (c : ℕ) (s1 s2 s3 s4 : Building) (value : Flow) → f ≡ Cell c → s1 ≡ enter c true s → at s2 value ≡ so s1
+      → s3 ≡ leave s2 → s4 ≡ enter c false s3
       → decide keep so otherwise s f ≡ close keep (record { control = c; value = value }) (otherwise s4)
   unfolding decide
   on_cell c s1 s2 s3 s4 value is entered made left again =

@@ -1,5 +1,5 @@
 -- What was made and met so far in a block, and what each form of a term adds to it. `keep` is what is kept of a node.
-use Rattle.std.specs.Prelude.{ℕ, ℤ, Bool, true, false, if◌then◌else◌, nat_lt, List, [], ◌∷◌, length, drop, Option, Some, None}
+use Rattle.std.specs.Prelude.{ℕ, ℤ, Bool, true, false, if◌then◌else◌, nat_lt, List, [], ◌∷◌, drop, Option, Some, None}
 use Rattle.df_values.specs.Tables.{binary_answer, unary_answer}
 use Rattle.df_values.specs.declared.kinds.Binary.{Binary}
 use Rattle.df_values.specs.declared.kinds.Unary.{Unary}

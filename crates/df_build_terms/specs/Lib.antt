@@ -4,3 +4,6 @@ pub mod Built
 pub mod Seen
 pub mod Parts
 pub mod Rows
+pub mod Counting
+pub mod Within
+pub mod Made

@@ -6,4 +6,5 @@
 
 pub mod building;
 pub mod elem;
+pub mod laws;
 pub mod terms;
