@@ -1,0 +1,9 @@
+pub mod Outer
+pub mod Building
+pub mod Built
+pub mod Seen
+pub mod Parts
+pub mod Rows
+pub mod Counting
+pub mod Within
+pub mod Made
