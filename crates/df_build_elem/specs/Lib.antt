@@ -1,3 +1,4 @@
 pub mod Blocks
 pub mod Program
 pub mod Laying
+pub mod Refusals

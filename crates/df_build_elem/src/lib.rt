@@ -4,4 +4,5 @@
 #![tactic(auto)]
 
 pub mod blocks;
+pub mod build;
 pub mod program;

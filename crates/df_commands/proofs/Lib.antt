@@ -13,4 +13,5 @@ pub mod CellReadings
 pub mod DualReadings
 pub mod Buffers
 pub mod ProgramReadings
+pub mod Compilations
 pub mod SourcesMeant

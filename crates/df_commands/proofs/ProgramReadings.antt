@@ -23,12 +23,15 @@ use Rattle.df_inline.specs.Sizes.{piped_size}
 use Rattle.df_inline.specs.declared.size.Size.{Size}
 use Rattle.df_commands.specs.Judged.{GivesMeaning}
 use Rattle.df_commands.specs.Laws.{ProgramsHaveOneReading, ProgramsHaveReadings}
+use Rattle.std.specs.Fmt.{decimal}
+use Rattle.df_build_elem.specs.Program.{census}
+use Rattle.df_compile.specs.Compiled.{most_skeleton_cells}
 use Rattle.df_commands.specs.Lines.{refusal}
 use Rattle.df_commands.specs.Texts.{and_word}
-use Rattle.df_commands.specs.ProgramTexts.{and_place, fault_word, check_reason, parse_reason, shape_reason, most_nodes, most_brackets, HasNoTokens, IsNoSource, FailsDemand, FailsForm, IsSmall, IsOver, IsAccepted, IsNotAccepted, HasTokens, IsTextOfTree, IsRefusedSource, ReadsTokens, ReadsTree, MeetsDemands, ReadsBlocks, ReadsFlat, ReadsProgram}
+use Rattle.df_commands.specs.ProgramTexts.{and_place, fault_word, check_reason, parse_reason, shape_reason, most_nodes, most_brackets, HasNoTokens, IsNoSource, FailsDemand, FailsForm, IsSmall, IsOver, flat_of, IsOverbuilt, IsSized, IsAccepted, IsNotAccepted, HasTokens, IsTextOfTree, IsRefusedSource, ReadsTokens, ReadsTree, MeetsDemands, ReadsBlocks, ReadsFlat, ReadsFew, ReadsProgram}
 use Rattle.df_commands.specs.ProgramTexts.IsNoSource.{syntax, unsupported, too_deep}
 use Rattle.df_commands.specs.ProgramTexts.IsOver.{too_large, too_tall}
-use Rattle.df_commands.specs.ProgramTexts.IsNotAccepted.{misnamed, misshapen, oversized}
+use Rattle.df_commands.specs.ProgramTexts.IsNotAccepted.{misnamed, misshapen, oversized, overbuilt}
 use Rattle.df_commands.specs.ProgramTexts.IsRefusedSource.{no_tokens, no_source, not_accepted}
 use Rattle.df_commands.specs.declared.programs.Source.{Source}
 use Rattle.df_commands.specs.declared.stop.Stop.{Stop}
@@ -146,11 +149,19 @@ one_cause tree line other (misshapen named a) (oversized again formed b) = absur
 one_cause tree line other (oversized named formed a) (misnamed b) = absurd (is_named tree other named b)
 one_cause tree line other (oversized named formed a) (misshapen again b) = absurd (is_formed tree other formed b)
 one_cause tree line other (oversized named formed a) (oversized again too b) = one_excess (piped_size (shaped tree)) line other a b
+one_cause tree line other (misnamed a) (overbuilt sized b) = absurd (is_named tree line sized.named a)
+one_cause tree line other (misshapen named a) (overbuilt sized b) = absurd (is_formed tree line sized.formed a)
+one_cause tree line other (oversized named formed a) (overbuilt sized b) = absurd (no_excess (piped_size (shaped tree)) line sized.within a)
+one_cause tree line other (overbuilt sized a) (misnamed b) = absurd (is_named tree other sized.named b)
+one_cause tree line other (overbuilt sized a) (misshapen named b) = absurd (is_formed tree other sized.formed b)
+one_cause tree line other (overbuilt sized a) (oversized named formed b) = absurd (no_excess (piped_size (shaped tree)) other sized.within b)
+one_cause tree line other (overbuilt sized a) (overbuilt again b) = a.says ∙ sym b.says
 
 is_accepted : (tree : Program) (line : List ℕ) → IsAccepted tree → IsNotAccepted tree line → ⊥
-is_accepted tree line accepted (misnamed a) = is_named tree line accepted.named a
-is_accepted tree line accepted (misshapen named a) = is_formed tree line accepted.formed a
-is_accepted tree line accepted (oversized named formed a) = no_excess (piped_size (shaped tree)) line accepted.within a
+is_accepted tree line accepted (misnamed a) = is_named tree line accepted.sized.named a
+is_accepted tree line accepted (misshapen named a) = is_formed tree line accepted.sized.formed a
+is_accepted tree line accepted (oversized named formed a) = no_excess (piped_size (shaped tree)) line accepted.sized.within a
+is_accepted tree line accepted (overbuilt sized a) = let few = accepted.few in let more = a.more in omega arith
 
 -- ---- one reading
 
@@ -196,11 +207,17 @@ module _ (tree : Program) (refused : ¬ IsAccepted tree) (passed : (line : List 
         ]
       ]
 
+  counted : IsSized tree → ⊥
+  counted is = elim (cases_lt most_skeleton_cells (census (flat_of tree))) [
+    | inl more ↦ passed (refusal (codes "TooManySkeletonCells" ++ and_word (decimal (census (flat_of tree))))) (overbuilt is (record { more = more; says = refl }))
+    | inr few ↦ refused (record { sized = is; few = few })
+  ]
+
   formed_so : first_refusal (demands tree) ≡ None → (found : Option ShapeAnswer) → first_refusal (form_demands tree) ≡ found → ⊥
   formed_so named (Some answer) first =
       passed (refusal (shape_reason answer)) (misshapen named (record { answer = answer; says = refl; first = first }))
   formed_so named None formed =
-      sized (piped_size (shaped tree)) (λ small. refused (record { named = named; formed = formed; within = small }))
+      sized (piped_size (shaped tree)) (λ small. counted (record { named = named; formed = formed; within = small }))
       (λ line over. passed line (oversized named formed over))
 
   named_so : (found : Option CheckAnswer) → first_refusal (demands tree) ≡ found → ⊥
@@ -266,6 +283,12 @@ size_fails text tree piped (stop.Refused line) is named shape over =
 size_fails text tree piped stop.ReadFault is named shape over = over
 size_fails text tree piped stop.Memory is named shape over = tt
 
-pub accepted_tree : (tree : Program) (piped : Piped) → first_refusal (demands tree) ≡ None → IsShaped tree piped → IsSmall (piped_size piped) → IsAccepted tree
-accepted_tree tree piped named shape within =
+pub cells_fail : (text : List ℕ) (tree : Program) (flat : Flat) (why : Stop) → IsTextOfTree text tree → IsSized tree → flat ≡ flat_of tree
+    → GivesMeaning (λ (done : Unit {0}). done) (Err why) (ReadsFew flat) → GivesMeaning (λ (s : Source). s.tree) (Err why) (ReadsProgram text)
+cells_fail text tree flat (stop.Refused line) is sized same over = not_accepted tree is (overbuilt sized (subst (λ f. IsOverbuilt f line) same over))
+cells_fail text tree flat stop.ReadFault is sized same over = over
+cells_fail text tree flat stop.Memory is sized same over = tt
+
+pub sized_tree : (tree : Program) (piped : Piped) → first_refusal (demands tree) ≡ None → IsShaped tree piped → IsSmall (piped_size piped) → IsSized tree
+sized_tree tree piped named shape within =
     record { named = named; formed = shape.holds; within = subst (λ p. IsSmall (piped_size p)) shape.is within }

@@ -11,16 +11,16 @@ use Rattle.df_iotext.specs.Schedules.{ReadsSchedule}
 use Rattle.df_iotext.specs.Laws.{InputsHaveOneReading, InputsHaveReadings, SchedulesHaveOneReading, SchedulesHaveReadings}
 use Rattle.df_iotext.specs.declared.inputs.InputAnswer.{InputAnswer}
 use Rattle.df_celltext.specs.declared.version.Version.TheVariants.{One, Two}
-use Rattle.df_commands.specs.Laws.{AcceptedSourcesBindNewNames, CellFilesHaveOneReading, CellFilesHaveReadings, DualFilesHaveOneReading, DualFilesHaveReadings, ProgramsHaveOneReading, ProgramsHaveReadings, HasOneVerdict, HasSomeVerdict}
+use Rattle.df_commands.specs.Laws.{AcceptedSourcesBindNewNames, CellFilesHaveOneReading, CellFilesHaveReadings, DualFilesHaveOneReading, DualFilesHaveReadings, CompilationsHaveOneReading, CompilationsHaveReadings, ProgramsHaveOneReading, ProgramsHaveReadings, HasOneVerdict, HasSomeVerdict}
 use Rattle.df_commands.specs.Lines.{refusal}
 use Rattle.df_commands.specs.Meanings.{decls_of, decls_by}
 use Rattle.df_commands.specs.Commands.{texts_of}
 use Rattle.df_commands.specs.declared.command.Command.{Command}
-use Rattle.df_commands.specs.declared.command.Command.TheVariants.{Check, Eval, Go, Run, Verify, Migrate}
-use Rattle.df_commands.specs.ProgramTexts.{ReadsProgram}
+use Rattle.df_commands.specs.declared.command.Command.TheVariants.{Check, Eval, Compile, Go, Run, Verify, Migrate}
+use Rattle.df_commands.specs.ProgramTexts.{ReadsProgram, ReadsCompilable}
 use Rattle.df_commands.specs.Sources.{ReadsSource}
 use Rattle.df_commands.specs.Texts.{input_reason, and_word, ReadsInputText, ReadsScheduleText, ReadsCellFile, ReadsDualFile}
-use Rattle.df_commands.specs.Verdicts.{Verdict, Refused, Accepted, Task, TellRight, TellMeaning, CompileAndRun, RunCells, TellLeast, WriteAnew, AfterText, AfterRead, Goes, JudgesInputs, JudgesGo, JudgesRun, JudgesVerify, JudgesEval, JudgesTexts, nth, texts_at}
+use Rattle.df_commands.specs.Verdicts.{Verdict, Refused, Accepted, Task, TellRight, TellMeaning, CompileSource, CompileAndRun, RunCells, TellLeast, WriteAnew, AfterText, AfterRead, Goes, JudgesInputs, JudgesGo, JudgesRun, JudgesVerify, JudgesEval, JudgesTexts, nth, texts_at}
 use Rattle.df_syntax.specs.SourceMeaning.{source_inputs}
 use Rattle.df_syntax.specs.declared.program.Program.{Program as Tree}
 use Rattle.df_commands.specs.declared.program.Program.{Program}
@@ -142,28 +142,34 @@ one_meaning : InputsHaveOneReading → ProgramsHaveOneReading → AcceptedSource
 one_meaning one_input one_program new source input v w =
     one_after_text (ReadsProgram source) v w (meaning_asked input) (one_program source)
     (λ tree read. one_after_text (ReadsInputText (decls_by (source_inputs tree)) input) v w (meaning_told tree)
-    (one_input_reading one_input (decls_by (source_inputs tree)) (own_names tree (new source tree read)) input) (λ inputs given p q. p ∙ sym q))
+    (one_input_reading one_input (decls_by (source_inputs tree)) (own_names tree (new source tree read.0 read.1.sized)) input) (λ inputs given p q. p ∙ sym q))
 
 -- what is asked once older cells were read
 abbrev anew_asked : List ℕ → Verdict → List Cell → Type 0
 anew_asked name v list = v ≡ Accepted (WriteAnew list name)
 
-one_of_texts : InputsHaveOneReading → SchedulesHaveOneReading → CellFilesHaveOneReading → DualFilesHaveOneReading → ProgramsHaveOneReading → AcceptedSourcesBindNewNames
+-- what is asked once a source was read that can be compiled
+abbrev pub compiled_asked : (cells dual : List ℕ) → Verdict → Tree → Type 0
+compiled_asked cells dual v tree = v ≡ Accepted (CompileSource tree cells dual)
+
+one_of_texts : InputsHaveOneReading → SchedulesHaveOneReading → CellFilesHaveOneReading → DualFilesHaveOneReading → ProgramsHaveOneReading → CompilationsHaveOneReading → AcceptedSourcesBindNewNames
     → (command : Command) (texts writes : List (List ℕ)) (v w : Verdict) → JudgesTexts command texts writes v → JudgesTexts command texts writes w → v ≡ w
-one_of_texts one_input one_schedule one_cells one_dual one_program new Check texts writes v w =
+one_of_texts one_input one_schedule one_cells one_dual one_program one_compilation new Check texts writes v w =
     one_after_text (ReadsProgram (nth texts 0)) v w (λ u tree. u ≡ Accepted TellRight) (one_program (nth texts 0)) (λ tree read p q. p ∙ sym q)
-one_of_texts one_input one_schedule one_cells one_dual one_program new Eval texts writes v w = one_meaning one_input one_program new (nth texts 0) (nth texts 1) v w
-one_of_texts one_input one_schedule one_cells one_dual one_program new Go texts writes v w =
+one_of_texts one_input one_schedule one_cells one_dual one_program one_compilation new Eval texts writes v w = one_meaning one_input one_program new (nth texts 0) (nth texts 1) v w
+one_of_texts one_input one_schedule one_cells one_dual one_program one_compilation new Compile texts writes v w =
+    one_after_text (ReadsCompilable (nth texts 0)) v w (compiled_asked (nth writes 0) (nth writes 1)) (one_compilation (nth texts 0)) (λ tree read p q. p ∙ sym q)
+one_of_texts one_input one_schedule one_cells one_dual one_program one_compilation new Go texts writes v w =
     one_go one_input one_schedule (nth texts 0) (nth texts 1) (nth texts 2) (nth writes 0) (nth writes 1) v w
-one_of_texts one_input one_schedule one_cells one_dual one_program new Run texts writes v w = one_file one_input one_schedule one_cells (nth texts 0) (nth texts 1) (nth texts 2) v w
-one_of_texts one_input one_schedule one_cells one_dual one_program new Verify texts writes v w = one_pair one_cells one_dual (nth texts 0) (nth texts 1) v w
-one_of_texts one_input one_schedule one_cells one_dual one_program new Migrate texts writes v w =
+one_of_texts one_input one_schedule one_cells one_dual one_program one_compilation new Run texts writes v w = one_file one_input one_schedule one_cells (nth texts 0) (nth texts 1) (nth texts 2) v w
+one_of_texts one_input one_schedule one_cells one_dual one_program one_compilation new Verify texts writes v w = one_pair one_cells one_dual (nth texts 0) (nth texts 1) v w
+one_of_texts one_input one_schedule one_cells one_dual one_program one_compilation new Migrate texts writes v w =
     one_after_text (ReadsCellFile One (nth texts 0)) v w (anew_asked (nth writes 0)) (one_cells One (nth texts 0)) (λ list read p q. p ∙ sym q)
 
-pub one_verdict : InputsHaveOneReading → SchedulesHaveOneReading → CellFilesHaveOneReading → DualFilesHaveOneReading → ProgramsHaveOneReading → AcceptedSourcesBindNewNames → HasOneVerdict
-one_verdict one_input one_schedule one_cells one_dual one_program new order holds v w =
+pub one_verdict : InputsHaveOneReading → SchedulesHaveOneReading → CellFilesHaveOneReading → DualFilesHaveOneReading → ProgramsHaveOneReading → CompilationsHaveOneReading → AcceptedSourcesBindNewNames → HasOneVerdict
+one_verdict one_input one_schedule one_cells one_dual one_program one_compilation new order holds v w =
     one_after_read (texts_at holds order.reads (texts_of order.command)) v w (λ u texts. JudgesTexts order.command texts order.writes u)
-    (λ texts. one_of_texts one_input one_schedule one_cells one_dual one_program new order.command texts order.writes v w)
+    (λ texts. one_of_texts one_input one_schedule one_cells one_dual one_program one_compilation new order.command texts order.writes v w)
 
 -- ---- there is a verdict
 
@@ -212,24 +218,27 @@ some_meaning some_input some_program source input =
     (λ tree read. some_after_text (ReadsInputText (decls_by (source_inputs tree)) input) (meaning_told tree) (some_input_reading some_input (decls_by (source_inputs tree)) input)
     (λ inputs given none. none (Accepted (TellMeaning tree inputs)) refl))
 
-some_of_texts : InputsHaveReadings → SchedulesHaveReadings → CellFilesHaveReadings → DualFilesHaveReadings → ProgramsHaveReadings
+some_of_texts : InputsHaveReadings → SchedulesHaveReadings → CellFilesHaveReadings → DualFilesHaveReadings → ProgramsHaveReadings → CompilationsHaveReadings
     → (command : Command) (texts writes : List (List ℕ)) → ¬ ((v : Verdict) → ¬ JudgesTexts command texts writes v)
-some_of_texts some_input some_schedule some_cells some_dual some_program Check texts writes =
+some_of_texts some_input some_schedule some_cells some_dual some_program some_compilation Check texts writes =
     some_after_text (ReadsProgram (nth texts 0)) (λ u tree. u ≡ Accepted TellRight) (some_program (nth texts 0)) (λ tree read none. none (Accepted TellRight) refl)
-some_of_texts some_input some_schedule some_cells some_dual some_program Eval texts writes = some_meaning some_input some_program (nth texts 0) (nth texts 1)
-some_of_texts some_input some_schedule some_cells some_dual some_program Go texts writes =
+some_of_texts some_input some_schedule some_cells some_dual some_program some_compilation Eval texts writes = some_meaning some_input some_program (nth texts 0) (nth texts 1)
+some_of_texts some_input some_schedule some_cells some_dual some_program some_compilation Compile texts writes =
+    some_after_text (ReadsCompilable (nth texts 0)) (compiled_asked (nth writes 0) (nth writes 1)) (some_compilation (nth texts 0))
+    (λ tree read none. none (Accepted (CompileSource tree (nth writes 0) (nth writes 1))) refl)
+some_of_texts some_input some_schedule some_cells some_dual some_program some_compilation Go texts writes =
     some_after_text (ReadsSource (nth texts 0)) (program_asked (nth texts 1) (nth texts 2) (nth writes 0) (nth writes 1)) (some_source_reading (nth texts 0))
     (λ program read. some_run some_input some_schedule (decls_of program) (nth texts 1) (nth texts 2) (λ inputs choices. CompileAndRun program inputs choices (nth writes 0) (nth writes 1)))
-some_of_texts some_input some_schedule some_cells some_dual some_program Run texts writes =
+some_of_texts some_input some_schedule some_cells some_dual some_program some_compilation Run texts writes =
     some_after_text (ReadsCellFile Two (nth texts 0)) (cells_asked (nth texts 1) (nth texts 2)) (some_cells Two (nth texts 0))
     (λ list read. some_run some_input some_schedule (inputs_of list) (nth texts 1) (nth texts 2) (λ inputs choices. RunCells list inputs choices))
-some_of_texts some_input some_schedule some_cells some_dual some_program Verify texts writes =
+some_of_texts some_input some_schedule some_cells some_dual some_program some_compilation Verify texts writes =
     some_after_text (ReadsCellFile Two (nth texts 0)) (dual_asked (nth texts 1)) (some_cells Two (nth texts 0))
     (λ list read. some_after_text (ReadsDualFile list (nth texts 1)) (told_of list) (some_dual list (nth texts 1) read.1) (λ flow certified none. none (Accepted (TellLeast list)) refl))
-some_of_texts some_input some_schedule some_cells some_dual some_program Migrate texts writes =
+some_of_texts some_input some_schedule some_cells some_dual some_program some_compilation Migrate texts writes =
     some_after_text (ReadsCellFile One (nth texts 0)) (anew_asked (nth writes 0)) (some_cells One (nth texts 0)) (λ list read none. none (Accepted (WriteAnew list (nth writes 0))) refl)
 
-pub some_verdict : InputsHaveReadings → SchedulesHaveReadings → CellFilesHaveReadings → DualFilesHaveReadings → ProgramsHaveReadings → HasSomeVerdict
-some_verdict some_input some_schedule some_cells some_dual some_program order holds =
+pub some_verdict : InputsHaveReadings → SchedulesHaveReadings → CellFilesHaveReadings → DualFilesHaveReadings → ProgramsHaveReadings → CompilationsHaveReadings → HasSomeVerdict
+some_verdict some_input some_schedule some_cells some_dual some_program some_compilation order holds =
     some_after_read (texts_at holds order.reads (texts_of order.command)) (λ u texts. JudgesTexts order.command texts order.writes u)
-    (λ texts. some_of_texts some_input some_schedule some_cells some_dual some_program order.command texts order.writes)
+    (λ texts. some_of_texts some_input some_schedule some_cells some_dual some_program some_compilation order.command texts order.writes)

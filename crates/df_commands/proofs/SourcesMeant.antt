@@ -13,7 +13,7 @@ use Rattle.df_values.specs.declared.values.Value.{Value}
 use Rattle.df_cells.specs.Cells.{declaration_of}
 use Rattle.df_cells.specs.declared.cells.InputDecl.{InputDecl}
 use Rattle.df_core.specs.Meaning.{flat_mean}
-use Rattle.df_core.specs.Within.{HaveRanges}
+use Rattle.df_core.specs.Within.{IsFlat}
 use Rattle.df_core.specs.declared.flat.Flat.{Flat}
 use Rattle.df_flattened.specs.Flattened.{flattened}
 use Rattle.df_flattened.specs.Law.{LoweringKeepsTheMeaning, LoweredProgramsAreFlat}
@@ -34,7 +34,7 @@ use Rattle.df_syntax.specs.declared.tree.Parameter.{Parameter}
 use Rattle.df_syntax.specs.declared.tree.Sort.{Sort}
 use Rattle.df_syntax.specs.declared.tree.Sort.TheVariants as of
 use Rattle.df_commands.specs.Meanings.{decls_by}
-use Rattle.df_commands.specs.ProgramTexts.{IsAccepted}
+use Rattle.df_commands.specs.ProgramTexts.{IsSized}
 use Rattle.df_commands.specs.Ready.{IsFlatOf}
 
 -- ---- the names of parameters
@@ -144,22 +144,22 @@ pub meant : LoweringKeepsTheMeaning → (tree : Tree) (flat : Flat) (inputs : Li
     → flat_mean flat inputs ≡ source_mean tree inputs
 meant keeps tree flat inputs is valid =
     ap (λ f. flat_mean f inputs) is.is
-    ∙ (keeps (shaped tree) inputs is.piped (subst (λ ps. AreValid (declared ps) inputs) (sym (inputs_are tree is.accepted.formed)) valid)
-    ∙ meaning_kept tree is.new is.accepted.formed inputs valid)
+    ∙ (keeps (shaped tree) inputs is.piped (subst (λ ps. AreValid (declared ps) inputs) (sym (inputs_are tree is.sized.formed)) valid)
+    ∙ meaning_kept tree is.new is.sized.formed inputs valid)
 
 same_parameters : (p : Piped) → (flattened p).parameters ≡ p.parameters
 unfolding flattened
 same_parameters p = refl
 
 pub flat_inputs : (tree : Tree) (flat : Flat) → IsFlatOf tree flat → flat.parameters ≡ source_inputs tree
-flat_inputs tree flat is = ap (λ (f : Flat). f.parameters) is.is ∙ (same_parameters (shaped tree) ∙ inputs_are tree is.accepted.formed)
+flat_inputs tree flat is = ap (λ (f : Flat). f.parameters) is.is ∙ (same_parameters (shaped tree) ∙ inputs_are tree is.sized.formed)
 
-pub flat_of_source : LoweredProgramsAreFlat → (tree : Tree) (piped : Piped) (flat : Flat) → IsTrue (names_are_new tree) → IsAccepted tree → IsPiped (shaped tree) → piped ≡ shaped tree → flat ≡ flattened piped
+pub flat_of_source : LoweredProgramsAreFlat → (tree : Tree) (piped : Piped) (flat : Flat) → IsTrue (names_are_new tree) → IsSized tree → IsPiped (shaped tree) → piped ≡ shaped tree → flat ≡ flattened piped
     → IsFlatOf tree flat
-flat_of_source within tree piped flat new accepted keeps shape lowered = record {
-  accepted = accepted;
+flat_of_source within tree piped flat new sized keeps shape lowered = record {
+  sized = sized;
   new = new;
   piped = keeps;
   is = lowered ∙ ap flattened shape;
-  ranges = subst (λ (f : Flat). HaveRanges f.blocks) (sym (lowered ∙ ap flattened shape)) (within (shaped tree) keeps).ranges;
+  bounds = subst IsFlat (sym (lowered ∙ ap flattened shape)) (within (shaped tree) keeps);
 }

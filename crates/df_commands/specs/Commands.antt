@@ -3,7 +3,7 @@ use Rattle.std.specs.Prelude.{ℕ, List, [], ◌∷◌, ◌+◌, ◌==◌, lengt
 use Rattle.std.specs.List.{list_any, find}
 use Rattle.std.specs.Str.{bytes_eq}
 use Rattle.df_commands.specs.declared.command.Command.{Command}
-use Rattle.df_commands.specs.declared.command.Command.TheVariants.{Check, Eval, Go, Run, Verify, Migrate}
+use Rattle.df_commands.specs.declared.command.Command.TheVariants.{Check, Eval, Compile, Go, Run, Verify, Migrate}
 use Rattle.df_commands.specs.declared.command.Text.{Text}
 use Rattle.df_commands.specs.declared.command.Text.TheVariants.{Source, Input, Schedule, Cells, Dual}
 
@@ -31,6 +31,7 @@ limit_of Dual = 8_388_608
 abbrev pub word_of : Command → List ℕ
 word_of Check = codes "check"
 word_of Eval = codes "eval"
+word_of Compile = codes "compile"
 word_of Go = codes "go"
 word_of Run = codes "run"
 word_of Verify = codes "verify"
@@ -40,6 +41,7 @@ word_of Migrate = codes "migrate"
 abbrev pub texts_of : Command → List Text
 texts_of Check = Source ∷ []
 texts_of Eval = Source ∷ Input ∷ []
+texts_of Compile = Source ∷ []
 texts_of Go = Source ∷ Input ∷ Schedule ∷ []
 texts_of Run = Cells ∷ Input ∷ Schedule ∷ []
 texts_of Verify = Cells ∷ Dual ∷ []
@@ -47,12 +49,13 @@ texts_of Migrate = Cells ∷ []
 
 -- how many files it writes; they are named behind those that it reads
 abbrev pub written_by : Command → ℕ
+written_by Compile = 2
 written_by Go = 2
 written_by Migrate = 1
 written_by _ = 0
 
 abbrev pub commands : List Command
-commands = Check ∷ Eval ∷ Go ∷ Run ∷ Verify ∷ Migrate ∷ []
+commands = Check ∷ Eval ∷ Compile ∷ Go ∷ Run ∷ Verify ∷ Migrate ∷ []
 
 -- ---- the words
 

@@ -19,9 +19,11 @@ use Rattle.df_stages.specs.Skeletons.{arcs}
 use Rattle.df_commands.specs.Effects.{Effect}
 use Rattle.df_syntax.specs.SourceMeaning.{source_mean}
 use Rattle.df_iotext.specs.Printed.{result_lines}
-use Rattle.df_commands.specs.Verdicts.{Task, TellRight, TellMeaning, CompileAndRun, RunCells, TellLeast, WriteAnew}
+use Rattle.df_commands.specs.Verdicts.{Task, TellRight, TellMeaning, CompileSource, CompileAndRun, RunCells, TellLeast, WriteAnew}
 use Rattle.df_stages.specs.Balance.{IsBalanced, IsLeast}
-use Rattle.df_commands.specs.Reports.{report_text, least_text, migrated_text}
+use Rattle.df_compile.specs.Compiled.{IsCompiledFrom}
+use Rattle.df_commands.specs.ProgramTexts.{flat_of}
+use Rattle.df_commands.specs.Reports.{report_text, counts_text, least_text, migrated_text}
 use Rattle.df_commands.specs.Lines.{line}
 
 -- For all valid inputs and every list of choices, of any length, no event on the way is a clash, and
@@ -53,6 +55,13 @@ abbrev pub MayDo : Task → Effect → Type 0
 MayDo TellRight effect = effect ≡ record { files = []; text = line (codes "ok"); is_done = true }
 -- the lists of the results, as the report of a run has them
 MayDo (TellMeaning tree inputs) effect = effect ≡ record { files = []; text = result_lines 1 (source_mean tree inputs); is_done = true }
+MayDo (CompileSource tree cells_name dual_name) effect =
+    (cells : List Cell) × (flow : List ℕ) × IsCompiledFrom (flat_of tree) cells flow
+    × (effect ≡ record {
+      files = (cells_name, cell_text cells) ∷ (dual_name, dual_text (arcs cells) flow) ∷ [];
+      text = counts_text cells;
+      is_done = true;
+    })
 MayDo (CompileAndRun program inputs schedule cells_name dual_name) effect =
     (cells : List Cell) × IsCompiled program cells
     × (effect ≡ record {

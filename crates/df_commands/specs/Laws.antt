@@ -16,7 +16,7 @@ use Rattle.df_commands.specs.Verdicts.{Verdict, Judges}
 use Rattle.df_cells.specs.WellFormed.{WellFormed}
 use Rattle.df_syntax.specs.FreshNames.{names_are_new}
 use Rattle.df_syntax.specs.declared.program.Program.{Program as Tree}
-use Rattle.df_commands.specs.ProgramTexts.{ReadsProgram}
+use Rattle.df_commands.specs.ProgramTexts.{IsTextOfTree, IsSized, ReadsProgram, ReadsCompilable}
 use Rattle.df_commands.specs.declared.program.Program.{Program}
 
 -- the cells of each program are faithful to it
@@ -56,11 +56,19 @@ ProgramsHaveOneReading = (text : List ℕ) (one other : Result Tree (List ℕ)) 
 abbrev pub ProgramsHaveReadings : Type 0
 ProgramsHaveReadings = (text : List ℕ) → ¬ ((reading : Result Tree (List ℕ)) → ¬ ReadsProgram text reading)
 
+-- whether the text of a source can be compiled has one answer at most
+abbrev pub CompilationsHaveOneReading : Type 0
+CompilationsHaveOneReading = (text : List ℕ) (one other : Result Tree (List ℕ)) → ReadsCompilable text one → ReadsCompilable text other → one ≡ other
+
+-- and it has one
+abbrev pub CompilationsHaveReadings : Type 0
+CompilationsHaveReadings = (text : List ℕ) → ¬ ((reading : Result Tree (List ℕ)) → ¬ ReadsCompilable text reading)
+
 -- the program in blocks of an accepted source keeps what is left of the demands on it, where its ranges are within their limits
 abbrev pub AcceptedSourcesKeepTheirDemands : Type 0
-AcceptedSourcesKeepTheirDemands = (text : List ℕ) (tree : Tree) → ReadsProgram text (Ok tree) → HaveRanges (shaped tree).blocks
+AcceptedSourcesKeepTheirDemands = (text : List ℕ) (tree : Tree) → IsTextOfTree text tree → IsSized tree → HaveRanges (shaped tree).blocks
     → All (λ (p : Input). HasExtent p.extent) (shaped tree).parameters → IsPiped (shaped tree)
 
 -- the names that an accepted source binds in its functions are new where it binds them
 abbrev pub AcceptedSourcesBindNewNames : Type 0
-AcceptedSourcesBindNewNames = (text : List ℕ) (tree : Tree) → ReadsProgram text (Ok tree) → IsTrue (names_are_new tree)
+AcceptedSourcesBindNewNames = (text : List ℕ) (tree : Tree) → IsTextOfTree text tree → IsSized tree → IsTrue (names_are_new tree)

@@ -24,6 +24,8 @@ use Rattle.df_shape.specs.Sources.{demands as form_demands}
 use Rattle.df_inline.specs.declared.size.Size.{Size}
 use Rattle.df_flattened.specs.Flattened.{flattened}
 use Rattle.df_inline.specs.Sizes.{piped_size}
+use Rattle.df_build_elem.specs.Program.{census}
+use Rattle.df_compile.specs.Compiled.{most_skeleton_cells, IsOverfull}
 use Rattle.df_commands.specs.Lines.{refusal}
 use Rattle.df_commands.specs.Texts.{and_word}
 
@@ -117,19 +119,36 @@ pub data IsOver (size : Size) (line : List ℕ) : Type 0 where
   too_large : most_nodes < size.nodes → line ≡ refusal (codes "TooLarge") → IsOver size line
   too_tall : size.nodes ≤ most_nodes → most_brackets < size.brackets → line ≡ refusal (codes "TooTall") → IsOver size line
 
+-- ---- how many cells
+
+-- the flat program of a tree
+abbrev pub flat_of : Program → Flat
+flat_of tree = flattened (shaped tree)
+
+-- its skeleton has too many cells
+pub record IsOverbuilt (flat : Flat) (line : List ℕ) : Type 0 where
+  pub more : most_skeleton_cells < census flat
+  pub says : line ≡ refusal (codes "TooManySkeletonCells" ++ and_word (decimal (census flat)))
+
 -- ---- accepted programs
 
 -- names and types are right, and so are the form and the sizes
-pub record IsAccepted (tree : Program) : Type 0 where
+pub record IsSized (tree : Program) : Type 0 where
   pub named : first_refusal (demands tree) ≡ None
   pub formed : first_refusal (form_demands tree) ≡ None
   pub within : IsSmall (piped_size (shaped tree))
+
+-- and the cells of the skeleton are few enough
+pub record IsAccepted (tree : Program) : Type 0 where
+  pub sized : IsSized tree
+  pub few : census (flat_of tree) ≤ most_skeleton_cells
 
 -- the tree is not accepted, and this line says of the first that is wrong why
 pub data IsNotAccepted (tree : Program) (line : List ℕ) : Type 0 where
   misnamed : FailsDemand tree line → IsNotAccepted tree line
   misshapen : first_refusal (demands tree) ≡ None → FailsForm tree line → IsNotAccepted tree line
   oversized : first_refusal (demands tree) ≡ None → first_refusal (form_demands tree) ≡ None → IsOver (piped_size (shaped tree)) line → IsNotAccepted tree line
+  overbuilt : IsSized tree → IsOverbuilt (flat_of tree) line → IsNotAccepted tree line
 
 -- ---- sources
 
@@ -151,6 +170,15 @@ pub data IsRefusedSource (text line : List ℕ) : Type 0 where
 abbrev pub ReadsProgram : List ℕ → Result Program (List ℕ) → Type 0
 ReadsProgram text (Ok tree) = IsTextOfTree text tree × IsAccepted tree
 ReadsProgram text (Err line) = IsRefusedSource text line
+
+-- a text is no accepted source, or that of one whose cells with all BUF cells are too many
+pub data IsNotCompilable (text line : List ℕ) : Type 0 where
+  unread : IsRefusedSource text line → IsNotCompilable text line
+  overfull : (tree : Program) → IsTextOfTree text tree → IsAccepted tree → IsOverfull (flat_of tree) → line ≡ refusal (codes "TooManyCells") → IsNotCompilable text line
+
+abbrev pub ReadsCompilable : List ℕ → Result Program (List ℕ) → Type 0
+ReadsCompilable text (Ok tree) = ReadsProgram text (Ok tree) × ¬ IsOverfull (flat_of tree)
+ReadsCompilable text (Err line) = IsNotCompilable text line
 
 -- ---- the steps of that reading
 
@@ -180,3 +208,7 @@ ReadsBlocks tree (Err line) = FailsForm tree line
 abbrev pub ReadsFlat : Piped → Result Flat (List ℕ) → Type 0
 ReadsFlat piped (Ok flat) = (flat ≡ flattened piped) × IsSmall (piped_size piped)
 ReadsFlat piped (Err line) = IsOver (piped_size piped) line
+
+abbrev pub ReadsFew : Flat → Result Unit (List ℕ) → Type 0
+ReadsFew flat (Ok done) = census flat ≤ most_skeleton_cells
+ReadsFew flat (Err line) = IsOverbuilt flat line

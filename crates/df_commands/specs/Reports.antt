@@ -24,10 +24,13 @@ report_text report =
 abbrev pub others : List Cell → ℕ
 others cells = count_by (λ cell. not (is_buffer cell.kind)) cells
 
+-- how many cells are no BUF cells, and how many are
+unfoldable pub counts_text : List Cell → List ℕ
+counts_text cells = line (codes "skeleton " ++ decimal (others cells)) ++ line (codes "buffers " ++ decimal (buffers cells))
+
 -- what is told of cells whose buffers are least
-unfoldable pub least_text : List Cell → List ℕ
-least_text cells =
-    line (codes "verified") ++ (line (codes "skeleton " ++ decimal (others cells)) ++ line (codes "buffers " ++ decimal (buffers cells)))
+abbrev pub least_text : List Cell → List ℕ
+least_text cells = line (codes "verified") ++ counts_text cells
 
 -- what is told of cells that are written anew
 abbrev pub migrated_text : List Cell → List ℕ

@@ -12,21 +12,22 @@ use Rattle.df_syntax.specs.declared.program.Program.{Program as Tree}
 use Rattle.df_syntax.specs.SourceMeaning.{source_inputs}
 use Rattle.df_commands.specs.declared.program.Program.{Program}
 use Rattle.df_commands.specs.declared.command.Command.{Command}
-use Rattle.df_commands.specs.declared.command.Command.TheVariants.{Check, Eval, Go, Run, Verify, Migrate}
+use Rattle.df_commands.specs.declared.command.Command.TheVariants.{Check, Eval, Compile, Go, Run, Verify, Migrate}
 use Rattle.df_commands.specs.declared.command.Text.{Text}
 use Rattle.df_commands.specs.Commands.{Order, texts_of, label_of, limit_of}
 use Rattle.df_commands.specs.Lines.{refusal}
 use Rattle.df_commands.specs.Meanings.{decls_of, decls_by}
-use Rattle.df_commands.specs.ProgramTexts.{ReadsProgram}
+use Rattle.df_commands.specs.ProgramTexts.{ReadsProgram, ReadsCompilable}
 use Rattle.df_commands.specs.Sources.{ReadsSource}
 use Rattle.df_commands.specs.Texts.{ReadsInputText, ReadsScheduleText, ReadsCellFile, ReadsDualFile}
 
--- What the texts of a command ask for, once none of them is refused: that a source is told to be right, that its meaning is told under some inputs, that a program is
+-- What the texts of a command ask for, once none of them is refused: that a source is told to be right, that its meaning is told under some inputs, that it is compiled and its cells are written, that a program is
 -- compiled and its cells are run and written, that cells are run, that it is told of cells that their buffers are balanced and least,
 -- or that cells of an older form are written anew.
 pub data Task : Type 0 where
   TellRight : Task
   TellMeaning : (tree : Tree) (inputs : List (List Value)) → Task
+  CompileSource : (tree : Tree) (cells dual : List ℕ) → Task
   CompileAndRun : (program : Program) (inputs : List (List Value)) (schedule : Schedule) (cells dual : List ℕ) → Task
   RunCells : (cells : List Cell) (inputs : List (List Value)) (schedule : Schedule) → Task
   TellLeast : (cells : List Cell) → Task
@@ -105,6 +106,9 @@ JudgesEval source input v =
     AfterText (ReadsInputText (decls_by (source_inputs tree)) input) v (λ inputs.
     v ≡ Accepted (TellMeaning tree inputs)))
 
+abbrev pub JudgesCompile : (source : List ℕ) → (cells dual : List ℕ) → Verdict → Type 0
+JudgesCompile source cells dual v = AfterText (ReadsCompilable source) v (λ tree. v ≡ Accepted (CompileSource tree cells dual))
+
 abbrev pub JudgesVerify : (cells dual : List ℕ) → Verdict → Type 0
 JudgesVerify cells dual v =
     AfterText (ReadsCellFile Two cells) v (λ list.
@@ -122,6 +126,7 @@ nth list k = get_or list k []
 abbrev pub JudgesTexts : Command → (texts writes : List (List ℕ)) → Verdict → Type 0
 JudgesTexts Check texts writes v = JudgesCheck (nth texts 0) v
 JudgesTexts Eval texts writes v = JudgesEval (nth texts 0) (nth texts 1) v
+JudgesTexts Compile texts writes v = JudgesCompile (nth texts 0) (nth writes 0) (nth writes 1) v
 JudgesTexts Go texts writes v = JudgesGo (nth texts 0) (nth texts 1) (nth texts 2) (nth writes 0) (nth writes 1) v
 JudgesTexts Run texts writes v = JudgesRun (nth texts 0) (nth texts 1) (nth texts 2) v
 JudgesTexts Verify texts writes v = JudgesVerify (nth texts 0) (nth texts 1) v

@@ -55,6 +55,8 @@ pub enum Command {
     Check,
     /// Tells what a source means under its inputs.
     Eval,
+    /// Compiles a source.
+    Compile,
     /// Compiles a source and runs its cells.
     Go,
     /// Runs the cells of a file.
@@ -65,9 +67,10 @@ pub enum Command {
     Migrate,
 }
 
-const COMMANDS: [Command; 6] = [
+const COMMANDS: [Command; 7] = [
     Command::Check,
     Command::Eval,
+    Command::Compile,
     Command::Go,
     Command::Run,
     Command::Verify,
@@ -82,6 +85,7 @@ impl Command {
         match self {
             Command::Check => "check",
             Command::Eval => "eval",
+            Command::Compile => "compile",
             Command::Go => "go",
             Command::Run => "run",
             Command::Verify => "verify",
@@ -94,7 +98,7 @@ impl Command {
         ensures { result.now ≡ texts_of self }
     {
         match self {
-            Command::Check => &[Text::Source],
+            Command::Check | Command::Compile => &[Text::Source],
             Command::Eval => &[Text::Source, Text::Input],
             Command::Go => &[Text::Source, Text::Input, Text::Schedule],
             Command::Run => &[Text::Cells, Text::Input, Text::Schedule],
@@ -108,7 +112,7 @@ impl Command {
         ensures { result ≡ written_by self }
     {
         match self {
-            Command::Go => 2,
+            Command::Compile | Command::Go => 2,
             Command::Migrate => 1,
             Command::Check | Command::Eval | Command::Run | Command::Verify => 0,
         }

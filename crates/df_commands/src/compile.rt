@@ -1,106 +1,92 @@
-//! The cells of a program.
-ghost use Rattle.std.specs.Prelude.{◌≡◌, IfOk};
-ghost use Rattle.df_commands.specs.Compiled.{IsCompiled};
-ghost use Rattle.df_commands.specs.Ready.{IsWithin};
-ghost use Rattle.df_commands.specs.Chain.{dests_at};
-ghost use Rattle.df_commands.specs.Laws.{AlwaysFaithful};
+//! `compile`: the cells of a source are written, and the dual flow that certifies their buffers.
+ghost use Rattle.std.specs.Prelude.{◌≡◌, ◌≤◌, length, IfOk, IsErrOf, string_bytes};
+ghost use Rattle.df_compile.specs.Compiled.{IsCompiledFrom};
+ghost use Rattle.df_stages.specs.Skeletons.{skeleton_of};
+ghost use Rattle.df_commands.specs.Compiled.{MayDo};
+ghost use Rattle.df_commands.specs.Plans.{effect_of};
+ghost use Rattle.df_commands.specs.ProgramTexts.{ReadsCompilable, flat_of};
+ghost use Rattle.df_commands.specs.Verdicts.{CompileSource, JudgesCompile};
+ghost use Rattle.df_commands.specs.Judged.{GivesMeaning, Settles};
 
-use crate::program::Program;
-use df_cells::cells::{Cell, CellId, Cells, Dest, Feed, Port};
-use df_cells::kinds::Kind;
-use df_cells::ports::{Dests, Ports};
-use df_histories::laws::{never_clashes, results_follow_histories};
-use df_machine::laws::{has_all_results, three_cells_are_well_formed};
+use crate::plan::{NewFile, Plan};
+use crate::programs::{Source, judge_program};
+use crate::refusals::{refused, refused_at};
+use crate::report::counts;
+use crate::stop::Stop;
+use df_celltext::writer::write_cells;
+use df_compile::compile::{CompileAnswer, Compiled, compile as compile_flat};
+use df_dual_check::dual_text::write_dual;
+use df_syntax::program::Program;
 use df_values::memory::Memory;
-use df_values::name::Name;
-use df_values::values::{Basic, Integer, Value};
 use std::alloc::Global;
 
-/// The cells of each program are faithful to it, under every list of choices.
-pub fn always_faithful()
-    ensures { AlwaysFaithful }
-{
-    never_clashes();
-    results_follow_histories();
-    has_all_results();
-    three_cells_are_well_formed();
+/// A source with its cells.
+#[derive(Drop)]
+pub struct CompiledSource {
+    /// Its tree.
+    pub tree: Program,
+    /// Its cells.
+    pub compiled: Compiled,
 }
 
-fn ports_of(alloc: Global, feeds: &[Feed]) -> Result<Ports, Memory>
-    ensures { IfOk result (λ ports. ports ≡ feeds.now) }
+/// The cells of a source, if it is accepted and they are not too many.
+pub fn judge_compilation(alloc: Global, text: &[u8]) -> Result<CompiledSource, Stop>
+    requires { length text.now ≤ 4294967294 }
+    ensures reads { GivesMeaning (λ it. it.tree) result (ReadsCompilable text.now) }
+    ensures compiled { IfOk result (λ it. IsCompiledFrom (flat_of it.tree) it.compiled.cells it.compiled.balance.flow) }
+    ensures skeleton { IfOk result (λ it. it.compiled.skeleton ≡ skeleton_of it.compiled.cells) }
 {
-    let mut ports = Ports::new(alloc);
-    for feed in feeds {
-        ports.push(*feed)?;
-    }
-    Ok(ports)
-}
-
-// Port 0 of a cell, or nothing.
-fn dests_to(alloc: Global, to: Option<u32>) -> Result<Dests, Memory>
-    ensures { IfOk result (λ dests. dests ≡ dests_at to) }
-{
-    let mut dests = Dests::new(alloc);
-    match to {
-        Some(cell) => {
-            dests.push(Dest {
-                cell: CellId(cell),
-                port: Port(0),
-            })?;
-            Ok(dests)
+    let Source { tree, flat } = judge_program(alloc, text)?;
+    match compile_flat(alloc, &flat) {
+        Ok(compiled) => Ok(CompiledSource { tree, compiled }),
+        Err(CompileAnswer::TooManyCells) => Err(Stop::Refused(refused(alloc, "TooManyCells", "")?)),
+        Err(CompileAnswer::TooManySkeletonCells(count)) => {
+            Err(Stop::Refused(refused_at(alloc, "TooManySkeletonCells", count)?))
         }
-        None => Ok(dests),
+        Err(CompileAnswer::Memory) => Err(Stop::Memory),
     }
 }
 
-// A cell on no loop that gives its values to port 0 of another, or to none.
-fn cell_to(
+// The files of cells and of their dual flow.
+fn planned<'a>(
     alloc: Global,
-    kind: Kind,
-    stage: u32,
-    feeds: &[Feed],
-    to: Option<u32>,
-) -> Result<Cell, Memory>
-    ensures { IfOk result (λ it. it ≡ record { kind = kind; stage = stage; mark = 0; ports = feeds.now; dests = dests_at to }) }
+    it: &CompiledSource,
+    cells: &'a String,
+    dual: &'a String,
+) -> Result<Plan<'a>, Memory>
+    requires compiled { IsCompiledFrom (flat_of it.now.tree) it.now.compiled.cells it.now.compiled.balance.flow }
+    requires skeleton { it.now.compiled.skeleton ≡ skeleton_of it.now.compiled.cells }
+    ensures { IfOk result (λ plan. MayDo (CompileSource it.now.tree (string_bytes cells.now) (string_bytes dual.now)) (effect_of plan)) }
 {
-    Ok(Cell {
-        kind,
-        stage,
-        mark: 0,
-        ports: ports_of(alloc, feeds)?,
-        dests: dests_to(alloc, to)?,
+    let compiled = &it.compiled;
+    let mut files = Vec::new(alloc);
+    files.push(NewFile {
+        name: cells,
+        bytes: write_cells(alloc, &compiled.cells)?,
+    })?;
+    files.push(NewFile {
+        name: dual,
+        bytes: write_dual(alloc, &compiled.skeleton, &compiled.balance.flow)?,
+    })?;
+    Ok(Plan {
+        files,
+        text: counts(alloc, &compiled.cells)?,
+        is_done: true,
     })
 }
 
-/// The cells of a program: its input, the addition and its output, in a row. The only error is want of memory.
-///
-/// For all valid inputs and under every list of choices, no operand comes to an occupied place, and the results are prefixes
-/// of what the program means.
-pub fn compile(alloc: Global, program: Program) -> Result<Cells, Memory>
-    requires { IsWithin program }
-    ensures { IfOk result (IsCompiled program) }
+/// Compiles the source. The cells are written under `cells` and their dual flow under `dual`; it is told how many cells the
+/// skeleton has, and how many BUF cells there are.
+pub fn compile<'a>(
+    alloc: Global,
+    source: &[u8],
+    cells: &'a String,
+    dual: &'a String,
+) -> Result<Plan<'a>, Stop>
+    requires { length source.now ≤ 4294967294 }
+    ensures settles { Settles (JudgesCompile source.now (string_bytes cells.now) (string_bytes dual.now)) result }
+    ensures no_fault { IsErrOf result Stop.ReadFault → ⊥ }
 {
-    always_faithful();
-    three_cells_are_well_formed();
-    let input = Kind::In {
-        name: Name::new(b"A"),
-        basic: Basic::Integer,
-        length: program.elements,
-    };
-    let addend = Feed::Constant(Value::Int(program.addend as Integer));
-    let output = Kind::Out {
-        result: 1,
-        length: program.elements,
-    };
-    let mut cells = Cells::new(alloc);
-    cells.push(cell_to(alloc, input, 0, &[], Some(1))?)?;
-    cells.push(cell_to(
-        alloc,
-        Kind::Add,
-        1,
-        &[Feed::Arc(CellId(0)), addend],
-        Some(2),
-    )?)?;
-    cells.push(cell_to(alloc, output, 2, &[Feed::Arc(CellId(1))], None)?)?;
-    Ok(cells)
+    let it = judge_compilation(alloc, source)?;
+    Ok(planned(alloc, &it, cells, dual)?)
 }

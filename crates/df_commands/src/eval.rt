@@ -1,7 +1,5 @@
 //! `eval`: it is told what a source means under its inputs.
 ghost use Rattle.std.specs.Prelude.{◌≡◌, ◌≤◌, length, IfOk, IsErrOf};
-ghost use Rattle.df_core.specs.Meaning.{flat_mean};
-ghost use Rattle.df_core.specs.Within.{HaveRanges};
 ghost use Rattle.df_syntax.specs.SourceMeaning.{source_inputs};
 ghost use Rattle.df_values.specs.Inputs.{AreValid, input_length, declared};
 ghost use Rattle.df_commands.specs.Meanings.{decls_by};
@@ -15,16 +13,12 @@ use crate::runs::judge_input;
 use crate::stop::Stop;
 use df_cells::cells::InputDecl;
 use df_core::evaluator::evaluate;
-use df_core::flat::Flat;
 use df_flattened::laws::lowering_keeps_the_meaning;
 use df_iotext::printing::print_outputs;
 use df_values::inputs::Input;
 use df_values::memory::Memory;
 use df_values::streams::Streams;
 use std::alloc::Global;
-
-// As many results as can be numbered.
-const MOST_RESULTS: usize = 4_294_967_294;
 
 // What is declared of a parameter.
 fn decl_by(input: &Input) -> InputDecl
@@ -66,24 +60,13 @@ fn judged(alloc: Global, source: &[u8], input: &[u8]) -> Result<Evaluated, Stop>
     ensures finds { Finds (λ it. TellMeaning it.source.tree it.inputs.lists) (JudgesEval source.now input.now) result }
     ensures no_fault { IsErrOf result Stop.ReadFault → ⊥ }
     ensures flat { IfOk result (λ it. IsFlatOf it.source.tree it.source.flat) }
+    ensures results { IfOk result (λ it. length it.source.flat.results ≤ 4294967294) }
     ensures valid { IfOk result (λ it. AreValid (declared (source_inputs it.source.tree)) it.inputs.lists) }
 {
     let source = judge_program(alloc, source)?;
     let decls = decls_by(alloc, source.flat.parameters.as_slice())?;
     let inputs = judge_input(alloc, input, &decls)?;
     Ok(Evaluated { source, inputs })
-}
-
-// The meaning of a flat program under some inputs. The only error is want of memory, and more results than can be numbered
-// count as that.
-fn meaning_of(alloc: Global, flat: &Flat, inputs: &Streams) -> Result<Streams, Memory>
-    requires { HaveRanges flat.now.blocks }
-    ensures { IfOk result (λ results. results.lists ≡ flat_mean flat.now inputs.now.lists) }
-{
-    if flat.results.as_slice().len() > MOST_RESULTS {
-        return Err(Memory);
-    }
-    evaluate(alloc, flat, inputs)
 }
 
 /// Tells what the source means under the inputs, by its flat program.
@@ -95,6 +78,6 @@ pub fn eval<'a>(alloc: Global, source: &[u8], input: &[u8]) -> Result<Plan<'a>, 
 {
     lowering_keeps_the_meaning();
     let it = judged(alloc, source, input)?;
-    let results = meaning_of(alloc, &it.source.flat, &it.inputs)?;
+    let results = evaluate(alloc, &it.source.flat, &it.inputs)?;
     Ok(Plan::of_text(alloc, print_outputs(alloc, &results)?, true))
 }

@@ -10,7 +10,7 @@ ghost use Rattle.df_commands.specs.Sources.{ReadsSource};
 ghost use Rattle.df_commands.specs.Verdicts.{CompileAndRun, JudgesGo};
 ghost use Rattle.df_commands.specs.Judged.{GivesMeaning, Finds, Settles};
 
-use crate::compile::compile;
+use crate::chain::compile;
 use crate::plan::{NewFile, Plan};
 use crate::program::Program;
 use crate::refusals::refused;

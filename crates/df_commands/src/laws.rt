@@ -1,5 +1,5 @@
 //! What follows from the definitions of the verdict alone: each call does nothing, and its contract is a law.
-ghost use Rattle.df_commands.specs.Laws.{AcceptedSourcesBindNewNames, AcceptedSourcesKeepTheirDemands, CellFilesHaveOneReading, CellFilesHaveReadings, DualFilesHaveOneReading, DualFilesHaveReadings, HasOneVerdict, HasSomeVerdict, ProgramsHaveOneReading, ProgramsHaveReadings};
+ghost use Rattle.df_commands.specs.Laws.{AcceptedSourcesBindNewNames, AcceptedSourcesKeepTheirDemands, CellFilesHaveOneReading, CellFilesHaveReadings, CompilationsHaveOneReading, CompilationsHaveReadings, DualFilesHaveOneReading, DualFilesHaveReadings, HasOneVerdict, HasSomeVerdict, ProgramsHaveOneReading, ProgramsHaveReadings};
 
 use df_accepted::laws::accepted_sources_are_piped;
 use df_celltext::laws::{has_one_first_wrong_line, is_read_or_wrong, text_tells_the_cells};
@@ -73,6 +73,20 @@ pub fn programs_have_readings()
     tokens_have_some_answer();
 }
 
+/// The text of a source is that of one tree that can be compiled, or is refused by one line, and not both.
+pub fn compilations_have_one_reading()
+    ensures { CompilationsHaveOneReading }
+{
+    programs_have_one_reading();
+}
+
+/// The text of a source is that of a tree that can be compiled, or is refused.
+pub fn compilations_have_readings()
+    ensures { CompilationsHaveReadings }
+{
+    programs_have_readings();
+}
+
 /// The program in blocks of an accepted source keeps what is left of the demands on it.
 pub fn accepted_sources_keep_their_demands()
     ensures { AcceptedSourcesKeepTheirDemands }
@@ -98,6 +112,7 @@ pub fn has_one_verdict()
     cell_files_have_one_reading();
     dual_files_have_one_reading();
     programs_have_one_reading();
+    compilations_have_one_reading();
     accepted_sources_bind_new_names();
 }
 
@@ -110,4 +125,5 @@ pub fn has_some_verdict()
     cell_files_have_readings();
     dual_files_have_readings();
     programs_have_readings();
+    compilations_have_readings();
 }

@@ -6,9 +6,10 @@
 #![tactic(auto)]
 
 mod cell_files;
+pub mod chain;
 mod check;
 pub mod command;
-pub mod compile;
+mod compile;
 mod eval;
 mod go;
 pub mod laws;

@@ -9,6 +9,7 @@ ghost use Rattle.df_commands.specs.Judged.{Settles, HasAbsenceCause};
 
 use crate::check::check;
 use crate::command::{Command, Order};
+use crate::compile::compile;
 use crate::eval::eval;
 use crate::go::go;
 use crate::migrate::migrate;
@@ -37,6 +38,7 @@ fn plan_of<'a>(
     match command {
         Command::Check => check(alloc, texts[0].as_slice()),
         Command::Eval => eval(alloc, texts[0].as_slice(), texts[1].as_slice()),
+        Command::Compile => compile(alloc, texts[0].as_slice(), &writes[0], &writes[1]),
         Command::Go => go(
             alloc,
             texts[0].as_slice(),

@@ -2,15 +2,17 @@
 ghost use Rattle.std.specs.Prelude.{◌≤◌, length, All, IfOk};
 ghost use Rattle.df_values.specs.Inputs.{HasExtent};
 ghost use Rattle.df_values.specs.declared.inputs.Input.{Input};
+ghost use Rattle.df_core.specs.Within.{HaveRanges as CoreRanges};
 ghost use Rattle.df_syntax.specs.WellShaped.{HaveRanges};
-ghost use Rattle.df_commands.specs.ProgramTexts.{ReadsTokens, ReadsTree, MeetsDemands, ReadsBlocks, ReadsFlat, ReadsProgram};
+ghost use Rattle.df_commands.specs.ProgramTexts.{ReadsTokens, ReadsTree, MeetsDemands, ReadsBlocks, ReadsFlat, ReadsFew, ReadsProgram};
 ghost use Rattle.df_commands.specs.Ready.{IsFlatOf};
 ghost use Rattle.df_commands.specs.Judged.{GivesMeaning};
 
 use crate::laws::{accepted_sources_bind_new_names, accepted_sources_keep_their_demands};
-use crate::refusals::refused;
+use crate::refusals::{refused, refused_at};
 use crate::source_refusals::{refused_check, refused_parse, refused_place, refused_shape};
 use crate::stop::Stop;
+use df_build_elem::build::census;
 use df_core::flat::Flat;
 use df_flattened::laws::lowered_programs_are_flat;
 use df_grammar::parse;
@@ -22,6 +24,9 @@ use df_syntax::program::Program;
 use df_syntax::token::Tokens;
 use df_types::check;
 use std::alloc::Global;
+
+// As many results as can be numbered.
+const MOST_RESULTS: usize = 4_294_967_294;
 
 /// A source that is accepted.
 #[derive(Drop)]
@@ -94,11 +99,28 @@ fn flat_of(alloc: Global, piped: &Piped) -> Result<Flat, Stop>
     }
 }
 
-/// The program of a text, if its names and types, its form and its sizes are right.
+// Tries how many cells the skeleton has. More results than can be numbered count as want of memory.
+fn count_cells(alloc: Global, flat: &Flat) -> Result<(), Stop>
+    requires { CoreRanges flat.now.blocks }
+    ensures few { GivesMeaning (λ done. done) result (ReadsFew flat.now) }
+    ensures results { IfOk result (λ done. length flat.now.results ≤ 4294967294) }
+{
+    if flat.results.as_slice().len() > MOST_RESULTS {
+        return Err(Stop::Memory);
+    }
+    let count = census(alloc, flat)?;
+    if count > 4096 {
+        return Err(Stop::Refused(refused_at(alloc, "TooManySkeletonCells", count)?));
+    }
+    Ok(())
+}
+
+/// The program of a text, if its names and types, its form, its sizes and the number of its cells are right.
 pub fn judge_program(alloc: Global, text: &[u8]) -> Result<Source, Stop>
     requires { length text.now ≤ 4294967294 }
     ensures reads { GivesMeaning (λ source. source.tree) result (ReadsProgram text.now) }
     ensures flat { IfOk result (λ source. IsFlatOf source.tree source.flat) }
+    ensures results { IfOk result (λ source. length source.flat.results ≤ 4294967294) }
 {
     accepted_sources_bind_new_names();
     accepted_sources_keep_their_demands();
@@ -108,5 +130,6 @@ pub fn judge_program(alloc: Global, text: &[u8]) -> Result<Source, Stop>
     check_tree(alloc, &tree)?;
     let piped = blocks_of(alloc, &tree)?;
     let flat = flat_of(alloc, &piped)?;
+    count_cells(alloc, &flat)?;
     Ok(Source { tree, flat })
 }

@@ -1,7 +1,7 @@
 //! The texts that report a run and tell of least buffers.
 ghost use Rattle.std.specs.Prelude.{◌≡◌, ◌++◌, OnOk, IfOk};
 ghost use Rattle.df_stages.specs.Skeletons.{buffers};
-ghost use Rattle.df_commands.specs.Reports.{report_text, spaced_counts, least_text, others, migrated_text};
+ghost use Rattle.df_commands.specs.Reports.{report_text, spaced_counts, counts_text, least_text, others, migrated_text};
 
 use df_cells::cells::{CellId, Cells};
 use df_histories::tracked::Tracked;
@@ -67,18 +67,35 @@ fn count_others(cells: &Cells) -> u32
     cells.len() - count_buffers(cells)
 }
 
-/// What is told of cells whose buffers are least: how many other cells and how many BUF cells there are. The only error is want
-/// of memory.
-#[tactic(auto, unfolding(crate::specs::Reports::least_text))]
-pub fn least(alloc: Global, cells: &Cells) -> Result<Bytes, Memory>
-    ensures { IfOk result (λ text. text ≡ least_text cells.now) }
+// How many other cells and how many BUF cells there are.
+#[tactic(auto, unfolding(crate::specs::Reports::counts_text))]
+fn push_counts(text: &mut Bytes, cells: &Cells) -> Result<(), Memory>
+    ensures { OnOk result (text.new ≡ text.old ++ counts_text cells.now) }
 {
-    let mut text = Bytes::new(alloc);
-    text.push_text("verified\nskeleton ")?;
+    text.push_text("skeleton ")?;
     text.push_number(u64::from(count_others(cells)))?;
     text.push_text("\nbuffers ")?;
     text.push_number(u64::from(count_buffers(cells)))?;
     text.push_text("\n")?;
+    Ok(())
+}
+
+/// What is told of compiled cells: how many are no BUF cells, and how many are. The only error is want of memory.
+pub fn counts(alloc: Global, cells: &Cells) -> Result<Bytes, Memory>
+    ensures { IfOk result (λ text. text ≡ counts_text cells.now) }
+{
+    let mut text = Bytes::new(alloc);
+    push_counts(&mut text, cells)?;
+    Ok(text)
+}
+
+/// What is told of cells whose buffers are least: the same counts. The only error is want of memory.
+pub fn least(alloc: Global, cells: &Cells) -> Result<Bytes, Memory>
+    ensures { IfOk result (λ text. text ≡ least_text cells.now) }
+{
+    let mut text = Bytes::new(alloc);
+    text.push_text("verified\n")?;
+    push_counts(&mut text, cells)?;
     Ok(text)
 }
 

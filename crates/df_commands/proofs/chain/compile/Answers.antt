@@ -5,7 +5,7 @@ use Rattle.df_values.specs.Values.{least, greatest}
 use Rattle.df_cells.specs.WellFormed.{WellFormed}
 use Rattle.df_machine.specs.ThreeCells.{three_cells}
 use Rattle.df_commands.specs.Compiled.{IsFaithful}
-use Rattle.df_commands.proofs.compile.compile.Goals as goal
+use Rattle.df_commands.proofs.chain.compile.Goals as goal
 
 pub overflow_cast-addend : goal.overflow_cast-addend
 unfolding least greatest

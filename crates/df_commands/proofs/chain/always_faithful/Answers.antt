@@ -1,5 +1,5 @@
 use Rattle.df_commands.proofs.Faithful.{faithful}
-use Rattle.df_commands.proofs.compile.always_faithful.Goals as goal
+use Rattle.df_commands.proofs.chain.always_faithful.Goals as goal
 
 pub returns : goal.returns
 returns c =
