@@ -19,4 +19,5 @@ pub mod Skeleton
 pub mod Balance
 pub mod PortSums
 pub mod Rules
+pub mod Realized
 pub mod Together

@@ -47,6 +47,7 @@ use Rattle.df_buffers_laws.proofs.Arcs.{within_old, all_fed, IsApart, all_apart}
 use Rattle.df_buffers_laws.proofs.Counts.{filled_by}
 use Rattle.df_buffers_laws.proofs.KindSums.{whole_sum, same_given}
 use Rattle.df_buffers_laws.proofs.NodeCounts.{counted_nodes}
+use Rattle.df_buffers_laws.proofs.Realized.{still_realize}
 use Rattle.df_buffers_laws.proofs.Balance.{balanced, counted, certified}
 use Rattle.df_buffers_laws.proofs.Rules.{keeps_rules}
 
@@ -188,7 +189,8 @@ module _ (unique : MarksAreUnique) (skeletons : HasSkeletons) (certifies : Certi
   inputs_stay = same_given declared_by old new is.few is.kinds (λ b behind h. ap declared_by (is.others b behind h))
 
   outputs_stay : outputs new ≡ outputs old
-  outputs_stay = whole_sum (λ k. cond (is_output k) 1 0) old new is.few is.kinds
+  outputs_stay = whole_sum (λ cell. cond (is_output cell.kind) 1 0) old new is.few
+      (λ c h. ap (λ k. cond (is_output k) 1 0) (is.kinds c h))
       (λ b behind h. ap (λ k. cond (is_output k) 1 0) (is.others b behind h))
 
   results_stay : (labels : Labels) (c k n : ℕ) → (cell_at new c).kind ≡ kind.Out k n
@@ -259,4 +261,7 @@ module _ (unique : MarksAreUnique) (skeletons : HasSkeletons) (certifies : Certi
     labelled =
         λ inputs labels meet. carried_meet old new count is inputs labels meet (within_old old well_formed plain);
     results_stay = results_stay;
+    realized = λ meaning realizes.
+        still_realize old new marks is.few inputs_stay outputs_stay loops_stay results_stay
+        (λ inputs labels meet. carried_meet old new count is inputs labels meet (within_old old well_formed plain)) meaning realizes;
   }
