@@ -158,7 +158,8 @@ module _ (old new : List Cell) (count : Dest → ℕ) (is : IsBuffered old new c
         ];
     nodes = λ c h. elim (cases_lt c (length old)) [
       | inl here ↦ one_stage c here ∙ ap (stage_of new) (sym (node_stays old new count is marks least c here))
-      | inr behind ↦ ap (stage_of new) (sym (ap (λ m. cond (m == 0) c (first_from (λ (cell : Cell). cell.mark == mark_of new c) 0 new)) (unmarked c behind)))
+      | inr behind ↦
+          ap (stage_of new) (sym (ap (λ m. cond (m == 0) c (first_from (λ (cell : Cell). cell.mark == mark_of new c) 0 new)) (unmarked c behind)))
     ];
   }
 

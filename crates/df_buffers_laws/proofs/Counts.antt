@@ -50,8 +50,13 @@ count_single q f a zero i h k others = absurd (omega arith)
 count_single q f a (suc n) i h k others =
     let whole = sum_by-append (λ x. cond (q x) 1 0) (f a) (flat_map f (range_with_len (a + 1) n)) in
     elim (cases_eq a i) [
-      | inl here ↦ whole ∙ ap (λ m. count_by q (f a) + m) (count_nothing q f (a + 1) n i (omega arith) others) ∙ (omega arith) ∙ ap (λ j. count_by q (f j)) here
-      | inr other ↦ whole ∙ ap (λ m. m + count_by q (flat_map f (range_with_len (a + 1) n))) (others a other) ∙ none_and (count_by q (flat_map f (range_with_len (a + 1) n))) ∙ count_single q f (a + 1) n i (omega (arith, other)) (omega arith) others
+      | inl here ↦
+          whole ∙ ap (λ m. count_by q (f a) + m) (count_nothing q f (a + 1) n i (omega arith) others) ∙ (omega arith)
+          ∙ ap (λ j. count_by q (f j)) here
+      | inr other ↦
+          whole ∙ ap (λ m. m + count_by q (flat_map f (range_with_len (a + 1) n))) (others a other)
+          ∙ none_and (count_by q (flat_map f (range_with_len (a + 1) n)))
+          ∙ count_single q f (a + 1) n i (omega (arith, other)) (omega arith) others
     ]
 
 -- as many as the excess
@@ -78,7 +83,9 @@ module _ (cells : List Cell) (numbers : ℕ → ℤ) where
   -- what holds of the name of each arc holds of each port to buffer
   pub ports_are : (P : Dest → Type 0) → ((arc : SkeletonArc) → Stands cells arc → P arc.name)
       → All P (ports_to_buffer (arcs cells) numbers)
-  ports_are P each = copies_of P (arcs cells) (All-weaker (Stands cells) (λ (arc : SkeletonArc). P arc.name) each (arcs cells) (all_stand cells))
+  ports_are P each =
+      copies_of P (arcs cells)
+      (All-weaker (Stands cells) (λ (arc : SkeletonArc). P arc.name) each (arcs cells) (all_stand cells))
 
   -- ---- how often a port is among them
 

@@ -137,7 +137,8 @@ module _ (old : List Cell) (home depth : ℕ → ℕ) (chain : ℕ → List ℕ)
         × (chain v.0 ≡ places (length old) e (done ++ d ∷ []))
 
     kept : (e : Dest) (v : CellId) → same_port e d ≡ false
-        → (depth v.0 ≡ count_by (same_port e) done) × (v.0 < length graph) × (chain v.0 ≡ places (length old) e done) → IsRight e v
+        → (depth v.0 ≡ count_by (same_port e) done) × (v.0 < length graph) × (chain v.0 ≡ places (length old) e done)
+        → IsRight e v
     kept e v other right =
         let more = counted_more e d false done other in
         let long = insert_length graph d within in (
@@ -208,7 +209,9 @@ module _ (old : List Cell) (home depth : ℕ → ℕ) (chain : ℕ → List ℕ)
 
     pub next_placed : Placed (done ++ d ∷ []) (insert graph d)
     next_placed = record {
-      count = let count = placed.count in let long = insert_length graph d within in let more = length_push done d in omega arith;
+      count =
+          let count = placed.count in
+          let long = insert_length graph d within in let more = length_push done d in omega arith;
       kinds = next_kinds;
       ports = next_ports;
       fed = next_fed;

@@ -26,7 +26,8 @@ pub whole_sum : (f : Cell → ℕ) (xs ys : List Cell) → length xs ≤ length 
 whole_sum f [] [] h same none = refl
 whole_sum f [] (y ∷ ys) h same none =
     let first : f y ≡ 0 = none 0 (omega arith) (omega arith) in
-    let rest = whole_sum f [] ys (omega arith) (λ i l. absurd (omega arith)) (λ i l m. none (suc i) (omega arith) (omega arith)) in
+    let rest =
+    whole_sum f [] ys (omega arith) (λ i l. absurd (omega arith)) (λ i l m. none (suc i) (omega arith) (omega arith)) in
     sum_by-cons f y ys ∙ ap (λ n. n + sum_by f ys) first ∙ (omega arith) ∙ rest
 whole_sum f (x ∷ xs) [] h same none = absurd (omega arith)
 whole_sum f (x ∷ xs) (y ∷ ys) h same none =

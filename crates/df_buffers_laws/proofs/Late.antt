@@ -65,8 +65,11 @@ late wanted i (f ∷ label) (v ∷ vs) order gates =
   where
     by : (b : Bool) → is_truth wanted v ≡ b → AreLate (first_from (is_truth wanted) (i + 1) vs) label
         → AreLate (cond b i (first_from (is_truth wanted) (i + 1) vs)) (f ∷ label)
-    by true passes rest = late_rest i f.turn f.answer (answered label) (late_turn i i f.turn order.0 (omega arith)) (late_after i (i + 1) label vs (omega arith) order.2)
-    by false stops rest = subst (λ o. AllByRecursion (λ x. IsLate (first_from (is_truth wanted) (i + 1) vs) x.0) (at_turn f.turn o ++ answered label)) (sym (gates.0.stops v order.1 stops)) rest
+    by true passes rest =
+        late_rest i f.turn f.answer (answered label) (late_turn i i f.turn order.0 (omega arith))
+        (late_after i (i + 1) label vs (omega arith) order.2)
+    by false stops rest =
+        subst (λ o. AllByRecursion (λ x. IsLate (first_from (is_truth wanted) (i + 1) vs) x.0) (at_turn f.turn o ++ answered label)) (sym (gates.0.stops v order.1 stops)) rest
 
 -- ---- from what a gate receives
 
@@ -184,7 +187,8 @@ module _ (cells : List Cell) (inputs : List (List Value)) (labels : Labels) (mee
   gate_late wanted c u runs is fed source =
       let vs = run_values runs in
       let cell = cell_at cells c in
-      let own : labels u.0 ≡ in_order_from 0 vs = (meet u.0).sources vs (ap (λ k. source_list k (values_of cells inputs u.0)) source) in
+      let own : labels u.0 ≡ in_order_from 0 vs =
+      (meet u.0).sources vs (ap (λ k. source_list k (values_of cells inputs u.0)) source) in
       let none = (meet c).unloaded 0 in
       let right = (meet c).right (no_list cell.kind wanted (values_of cells inputs c) is) in
       let values : stream_values (received 0 (labels c)) ≡ vs =
@@ -213,7 +217,8 @@ module _ (cells : List Cell) (inputs : List (List Value)) (labels : Labels) (mee
         | inl ctl ↦
             subst (λ vs. AreLate (first_truth wanted vs) (labels c)) (sym (ap control_values ctl.1))
             (gate_late wanted c u ctl.0 is fed (ap (λ k. (cell_at cells k).kind) (sym straight) ∙ ctl.1))
-        | inr none ↦ subst (λ vs. AreLate (first_truth wanted vs) (labels c)) (sym none) (late_anyway (answered (labels c)))
+        | inr none ↦
+            subst (λ vs. AreLate (first_truth wanted vs) (labels c)) (sym none) (late_anyway (answered (labels c)))
       ]
 
   pub late_enough : (c : ℕ) → AreLate (gate_part cells c) (labels c)

@@ -86,8 +86,10 @@ first_passes p n (x ∷ xs) d i h passes = by (p x) refl i h passes (λ j l q. f
   where
     by : (b : Bool) → p x ≡ b → (i : ℕ) → i < length (x ∷ xs) → p (get_or (x ∷ xs) i d) ≡ true
         → ((j : ℕ) → j < length xs → p (get_or xs j d) ≡ true → (n + 1 ≤ first_from p (n + 1) xs) × (first_from p (n + 1) xs ≤ n + 1 + j) × (p (get_or xs (first_from p (n + 1) xs - (n + 1)) d) ≡ true))
-        → (n ≤ cond b n (first_from p (n + 1) xs)) × (cond b n (first_from p (n + 1) xs) ≤ n + i) × (p (get_or (x ∷ xs) (cond b n (first_from p (n + 1) xs) - n) d) ≡ true)
-    by true is i h passes more = let none : n - n ≡ 0 = omega arith in (omega arith, omega arith, ap (λ k. p (get_or (x ∷ xs) k d)) none ∙ is)
+        → (n ≤ cond b n (first_from p (n + 1) xs)) × (cond b n (first_from p (n + 1) xs) ≤ n + i)
+        × (p (get_or (x ∷ xs) (cond b n (first_from p (n + 1) xs) - n) d) ≡ true)
+    by true is i h passes more =
+        let none : n - n ≡ 0 = omega arith in (omega arith, omega arith, ap (λ k. p (get_or (x ∷ xs) k d)) none ∙ is)
     by false is zero h passes more = absurd (cc)
     by false is (suc i) h passes more =
         let at = more i (omega arith) passes in
@@ -100,10 +102,14 @@ module _ (cells : List Cell) (c : ℕ) (h : c < length cells) where
   found = first_from (λ (cell : Cell). cell.mark == mark_of cells c) 0 cells
 
   facts : (0 ≤ found) × (found ≤ 0 + c) × ((mark_of cells (found - 0) == mark_of cells c) ≡ true)
-  facts = first_passes (λ (cell : Cell). cell.mark == mark_of cells c) 0 cells no_cell c h (eq-eqb (mark_of cells c) (mark_of cells c) refl)
+  facts =
+      first_passes (λ (cell : Cell). cell.mark == mark_of cells c) 0 cells no_cell c h
+      (eq-eqb (mark_of cells c) (mark_of cells c) refl)
 
   same_mark : mark_of cells found ≡ mark_of cells c
-  same_mark = let none : found ≡ found - 0 = omega arith in ap (mark_of cells) none ∙ eqb-true (mark_of cells (found - 0)) (mark_of cells c) facts.2
+  same_mark =
+      let none : found ≡ found - 0 = omega arith in
+      ap (mark_of cells) none ∙ eqb-true (mark_of cells (found - 0)) (mark_of cells c) facts.2
 
   node_facts : (node_of cells c ≤ c) × (node_of cells (node_of cells c) ≡ node_of cells c)
   node_facts = by (mark_of cells c == 0) refl
@@ -158,7 +164,9 @@ node_room cells c h node =
     omega arith
 
 few_below : (cells : List Cell) (c : ℕ) → count_below cells c ≤ c
-few_below cells c = let a = length-filter (is_node cells) (range_with_len 0 c) in let b = count_by-le-length (is_node cells) (range_with_len 0 c) in let n = length-range_with_len 0 c in omega arith
+few_below cells c =
+    let a = length-filter (is_node cells) (range_with_len 0 c) in
+    let b = count_by-le-length (is_node cells) (range_with_len 0 c) in let n = length-range_with_len 0 c in omega arith
 
 -- ---- all of it
 

@@ -56,15 +56,19 @@ module _ (old new : List Cell) (marks : (c : ℕ) → mark_of new c ≡ mark_of 
     pub places_stay : HasPlaces new (carried old new labels)
     places_stay = record {
       place = places.place;
-      within = λ c. subst (λ n. places.place c < n) (sym (sizes_stay (mark_of new c) ∙ ap (loop_size old) (marks c))) (places.within c);
+      within = λ c.
+          subst (λ n. places.place c < n) (sym (sizes_stay (mark_of new c) ∙ ap (loop_size old) (marks c)))
+          (places.within c);
       passing = λ d u i j fed some same pairs.
           let other : mark_of new d.cell.0 ≢ 0 = λ none. some (same ∙ none) in
           let feed = loops_stay d u fed some other in
           let from = old_label old new labels u.0 (marked_inside u.0 some) in
           let to = old_label old new labels d.cell.0 (marked_inside d.cell.0 other) in
           let was : Pairs old labels d u.0 i j = record {
-            gives = subst (λ (l : List Firing). length (answered (take (suc i) l)) ≡ suc (length (answered (take i l)))) from pairs.gives;
-            takes = subst (λ (l : List Firing). length (received d.port.0 (take (suc j) l)) ≡ suc (length (received d.port.0 (take j l)))) to pairs.takes;
+            gives =
+                subst (λ (l : List Firing). length (answered (take (suc i) l)) ≡ suc (length (answered (take i l)))) from pairs.gives;
+            takes =
+                subst (λ (l : List Firing). length (received d.port.0 (take (suc j) l)) ≡ suc (length (received d.port.0 (take j l)))) to pairs.takes;
             same = ap (λ o. length (listed (loaded_from o)) + length (answered (take i (labels u.0)))) (sym feed)
                 ∙ ap (λ (l : List Firing). length (listed (loaded_at new d)) + length (answered (take i l))) (sym from)
                 ∙ pairs.same ∙ ap (λ (l : List Firing). length (received d.port.0 (take j l))) to;
@@ -96,5 +100,7 @@ module _ (old new : List Cell) (marks : (c : ℕ) → mark_of new c ≡ mark_of 
     outputs =
         λ inputs valid. outputs_stay
         ∙ realizes.outputs inputs (subst (λ ds. AreValid ds inputs) same_declarations valid);
-    tells = λ inputs valid. still_tell inputs (meaning inputs) (realizes.tells inputs (subst (λ ds. AreValid ds inputs) same_declarations valid));
+    tells = λ inputs valid.
+        still_tell inputs (meaning inputs)
+        (realizes.tells inputs (subst (λ ds. AreValid ds inputs) same_declarations valid));
   }

@@ -42,7 +42,9 @@ module _ (old new : List Cell) (count : Dest → ℕ) (is : IsBuffered old new c
   no_node c behind h = ap (λ b. not b && (node_of new c == c)) (buf old new count is c behind h)
 
   pub nodes_stay : nodes new ≡ nodes old
-  nodes_stay = filter_first (is_node new) (is_node old) 0 (length old) (length new) is.few (λ i k l. is_node_stays i (omega arith)) (λ i k l. no_node i (omega arith) (omega arith))
+  nodes_stay =
+      filter_first (is_node new) (is_node old) 0 (length old) (length new) is.few
+      (λ i k l. is_node_stays i (omega arith)) (λ i k l. no_node i (omega arith) (omega arith))
 
   below_stays : (n : ℕ) → n ≤ length old → count_below new n ≡ count_below old n
   below_stays n h = ap (λ (l : List ℕ). length l)
@@ -96,7 +98,8 @@ module _ (old new : List Cell) (count : Dest → ℕ) (is : IsBuffered old new c
 
   cell_stays : (c : ℕ) → c < length old → arcs_into new c ≡ map (filled count) (arcs_into old c)
   cell_stays c h =
-      let ports : length (cell_at new c).ports ≡ length (cell_at old c).ports = sym (length-map (cell_at new c).ports (over_buffers new)) ∙ ap (λ (l : List Feed). length l) (is.feeds c h) in
+      let ports : length (cell_at new c).ports ≡ length (cell_at old c).ports =
+      sym (length-map (cell_at new c).ports (over_buffers new)) ∙ ap (λ (l : List Feed). length l) (is.feeds c h) in
       let at_old = λ (p : ℕ). arc_from old (port_of c p) (producer_of old (port_of c p)) in
       ap (λ b. cond b [] (arcs_at_ports new c)) (plain old new count is c h)
       ∙ ap (λ n. flat_map (λ p. arc_from new (port_of c p) (producer_of new (port_of c p))) (range_with_len 0 n)) ports

@@ -141,7 +141,9 @@ module _ (unique : MarksAreUnique) (skeletons : HasSkeletons) (certifies : Certi
   -- ---- the skeleton
 
   long : length new ≡ length old + length ports
-  long = new_length old plain (within_old old well_formed plain) ports new made.graph (all_fed old well_formed plain (numbered stages))
+  long =
+      new_length old plain (within_old old well_formed plain) ports new made.graph
+      (all_fed old well_formed plain (numbered stages))
 
   same_node_over : (k : ℕ) → k < length old → node_over new (cell_at new k) ≡ node_of (cell_at old k)
   same_node_over k h =
