@@ -41,7 +41,13 @@ module _ (cells : List Cell) where
       by (Some u) fed = by_node (same_node cells (origin cells u.0) c) refl (ap (arc_from cells (port_of c p)) fed)
         where
           arc : SkeletonArc
-          arc = record { name = port_of c p; from = node_place cells (origin cells u.0); to = node_place cells c; weight = weight cells (origin cells u.0) (port_of c p); buffers = buffers_from cells u.0 }
+          arc = record {
+            name = port_of c p;
+            from = node_place cells (origin cells u.0);
+            to = node_place cells c;
+            weight = weight cells (origin cells u.0) (port_of c p);
+            buffers = buffers_from cells u.0;
+          }
 
           by_node : (b : Bool) → same_node cells (origin cells u.0) c ≡ b
               → at_port c p ≡ arc_between cells (port_of c p) u → All (IsAt c p) (cond b [] (arc ∷ []))
@@ -72,7 +78,8 @@ module _ (cells : List Cell) where
       by true buf = All-nil Stands
       by false plain =
           all_pieces Stands (at_port c) 0 (length (cell_at cells c).ports)
-          (λ p k l. All-weaker (IsAt c p) Stands (λ arc at. stands_at c p inside plain (omega arith) arc at) (at_port c p) (ports_at c p))
+          (λ p k l. All-weaker (IsAt c p) Stands (λ arc at. stands_at c p inside plain (omega arith) arc at)
+          (at_port c p) (ports_at c p))
 
   pub all_stand : All Stands (arcs cells)
   all_stand = all_pieces Stands (arcs_into cells) 0 (length cells) (λ c k l. cell_arcs c (omega arith))

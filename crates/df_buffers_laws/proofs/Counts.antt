@@ -92,7 +92,9 @@ module _ (cells : List Cell) (numbers : ℕ → ℤ) where
   others_none : (d : Dest) (c p : ℕ) → same_port d (port_of c p) ≡ false
       → count_by (same_port d) (flat_map copies (at_port cells c p)) ≡ 0
   others_none d c p other = count_none (same_port d) (flat_map copies (at_port cells c p))
-      (copies_of (λ e. same_port d e ≡ false) (at_port cells c p) (All-weaker (IsAt cells c p) (λ (arc : SkeletonArc). same_port d arc.name ≡ false) (λ arc at. ap (same_port d) at.name ∙ other) (at_port cells c p) (ports_at cells c p)))
+      (copies_of (λ e. same_port d e ≡ false) (at_port cells c p)
+      (All-weaker (IsAt cells c p) (λ (arc : SkeletonArc). same_port d arc.name ≡ false)
+      (λ arc at. ap (same_port d) at.name ∙ other) (at_port cells c p) (ports_at cells c p)))
 
   other_cells : (d : Dest) (c : ℕ) → (c ≡ d.cell.0 → ⊥)
       → count_by (same_port d) (flat_map copies (arcs_into cells c)) ≡ 0
@@ -103,7 +105,9 @@ module _ (cells : List Cell) (numbers : ℕ → ℤ) where
       by false = count_none (same_port d) (flat_map copies (arcs_at_ports cells c))
           (copies_of (λ e. same_port d e ≡ false) (arcs_at_ports cells c)
           (all_pieces (λ arc. same_port d arc.name ≡ false) (at_port cells c) 0 (length (cell_at cells c).ports)
-          (λ p k l. All-weaker (IsAt cells c p) (λ (arc : SkeletonArc). same_port d arc.name ≡ false) (λ arc at. ap (same_port d) at.name ∙ other_cell d (port_of c p) (λ e. other (sym e))) (at_port cells c p) (ports_at cells c p))))
+          (λ p k l. All-weaker (IsAt cells c p) (λ (arc : SkeletonArc). same_port d arc.name ≡ false)
+          (λ arc at. ap (same_port d) at.name ∙ other_cell d (port_of c p) (λ e. other (sym e))) (at_port cells c p)
+          (ports_at cells c p))))
 
   pub copies_counted : (arc : SkeletonArc) → Stands cells arc
       → count_by (same_port arc.name) (ports_to_buffer (arcs cells) numbers) ≡ natural (excess numbers arc)

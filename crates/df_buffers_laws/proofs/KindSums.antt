@@ -33,7 +33,8 @@ whole_sum f (x ∷ xs) [] h same none = absurd (omega arith)
 whole_sum f (x ∷ xs) (y ∷ ys) h same none =
     sum_by-cons f y ys ∙ ap (λ n. n + sum_by f ys) (same 0 (omega arith))
     ∙ ap (λ n. f x + n)
-    (whole_sum f xs ys (omega arith) (λ i l. same (suc i) (omega arith)) (λ i l m. none (suc i) (omega arith) (omega arith)))
+    (whole_sum f xs ys (omega arith) (λ i l. same (suc i) (omega arith))
+    (λ i l m. none (suc i) (omega arith) (omega arith)))
     ∙ sym (sum_by-cons f x xs)
 
 -- what some kinds give
@@ -49,4 +50,5 @@ same_given f (x ∷ xs) [] h same none = absurd (omega arith)
 same_given f (x ∷ xs) (y ∷ ys) h same none =
     ap (λ k. cons_option (f k) (filter_map (λ (cell : Cell). f cell.kind) ys)) (same 0 (omega arith))
     ∙ ap (cons_option (f x.kind))
-    (same_given f xs ys (omega arith) (λ i l. same (suc i) (omega arith)) (λ i l m. none (suc i) (omega arith) (omega arith)))
+    (same_given f xs ys (omega arith) (λ i l. same (suc i) (omega arith))
+    (λ i l m. none (suc i) (omega arith) (omega arith)))

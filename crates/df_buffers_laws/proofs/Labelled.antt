@@ -108,7 +108,8 @@ buf_right : (cell : Cell) (u : CellId) (g : ℕ) (s : Stream) → cell.kind ≡ 
     → AllByRecursion (IsRightFiring cell) (map (pass g) s)
 buf_right cell u g s is ports =
     subst (λ (l : List Feed). AllByRecursion (IsRightFiring (record cell { ports = l })) (map (pass g) s)) (sym ports)
-    (subst (λ (k : Kind). AllByRecursion (IsRightFiring (record cell { kind = k; ports = Arc u ∷ [] })) (map (pass g) s)) (sym is) (passes_right cell u g s))
+    (subst (λ (k : Kind). AllByRecursion (IsRightFiring (record cell { kind = k; ports = Arc u ∷ [] }))
+    (map (pass g) s)) (sym is) (passes_right cell u g s))
 
 -- ---- cells with BUF cells
 
@@ -240,7 +241,8 @@ module _ (old new : List Cell) (count : Dest → ℕ) (is : IsBuffered old new c
         → (p ≡ 0) × (origin new b ≡ origin new u.0)
     buf_origin_of b zero u behind h fed =
         let feed = buf_feed old new count is b behind h in
-        (refl, buf_origin old new count is b feed.0 behind h feed.1 feed.2 ∙ ap (origin new) (sym (only_feed old new count is b 0 u behind h fed)))
+        let only = sym (only_feed old new count is b 0 u behind h fed) in
+        (refl, buf_origin old new count is b feed.0 behind h feed.1 feed.2 ∙ ap (origin new) only)
     buf_origin_of b (suc p) u behind h fed =
         let none = ap (λ (ports : List Feed). cell_from (slice_get ports (suc p))) (is.chains b behind h).1 in
         absurd (cc)
@@ -296,7 +298,8 @@ module _ (old new : List Cell) (count : Dest → ℕ) (is : IsBuffered old new c
           arcs = λ p u fed. old_arcs c p u h fed;
           shifts = λ p u fed. old_shifts c p u h fed;
           right = λ none. subst (AllByRecursion (IsRightFiring (cell_at new c))) same
-              (all_right new (cell_at old c) (cell_at new c) (is.kinds c h) (is.feeds c h) (labels c) (at.right (sym (same_sources inputs c h) ∙ none)));
+              (all_right new (cell_at old c) (cell_at new c) (is.kinds c h) (is.feeds c h) (labels c)
+              (at.right (sym (same_sources inputs c h) ∙ none)));
           unloaded = λ p. none_loaded (port_of c p);
           outputs =
               λ k n e. ap (λ (l : List Firing). length l) (old_label old new labels c h)
@@ -319,10 +322,12 @@ module _ (old new : List Cell) (count : Dest → ℕ) (is : IsBuffered old new c
           single =
               subst (λ l. AllByRecursion (λ t. length t ≡ 1) (turns_of l)) same
               (single_back g (turns_of (map (pass g) stream))
-              (subst (AllByRecursion (λ t. length t ≡ 1)) (sym turns) (all_answered (λ t. length t ≡ 1) label at.single)));
+              (subst (AllByRecursion (λ t. length t ≡ 1)) (sym turns)
+              (all_answered (λ t. length t ≡ 1) label at.single)));
           rising =
               subst (λ l. AreRising (turns_of l)) same
-              (rising_back g (turns_of (map (pass g) stream)) (subst AreRising (sym turns) (rising_answered label at.rising)));
+              (rising_back g (turns_of (map (pass g) stream))
+              (subst AreRising (sym turns) (rising_answered label at.rising)));
           arcs = λ p u fed. buf_arcs b p u behind h fed;
           shifts = λ p u fed. buf_shifts b p u behind h fed;
           right = λ none.

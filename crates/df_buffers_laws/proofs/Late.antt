@@ -69,7 +69,8 @@ late wanted i (f ∷ label) (v ∷ vs) order gates =
         late_rest i f.turn f.answer (answered label) (late_turn i i f.turn order.0 (omega arith))
         (late_after i (i + 1) label vs (omega arith) order.2)
     by false stops rest =
-        subst (λ o. AllByRecursion (λ x. IsLate (first_from (is_truth wanted) (i + 1) vs) x.0) (at_turn f.turn o ++ answered label)) (sym (gates.0.stops v order.1 stops)) rest
+        subst (λ o. AllByRecursion (λ x. IsLate (first_from (is_truth wanted) (i + 1) vs) x.0)
+        (at_turn f.turn o ++ answered label)) (sym (gates.0.stops v order.1 stops)) rest
 
 -- ---- from what a gate receives
 
@@ -86,7 +87,8 @@ in_order i (f ∷ label) vs takes values turns =
     by : (o : Option Value) → get_or f.taken 0 None ≡ o → (vs : List Value) → is_some o ≡ true
         → stream_values (at_turn f.turn o ++ received 0 label) ≡ vs
         → stream_turns (at_turn f.turn o ++ received 0 label) ≡ stream_turns (answered (in_order_from i vs))
-        → ((ws : List Value) → stream_values (received 0 label) ≡ ws → stream_turns (received 0 label) ≡ stream_turns (answered (in_order_from (i + 1) ws)) → InOrder (i + 1) label ws)
+        → ((ws : List Value) → stream_values (received 0 label) ≡ ws
+        → stream_turns (received 0 label) ≡ stream_turns (answered (in_order_from (i + 1) ws)) → InOrder (i + 1) label ws)
         → InOrder i (f ∷ label) vs
     by None is vs some values turns rest = absurd (cc)
     by (Some v) is [] some values turns rest = absurd (cc)
@@ -204,7 +206,8 @@ module _ (cells : List Cell) (inputs : List (List Value)) (labels : Labels) (mee
       ∙ zeros (stream_turns (answered (labels u.0)))
       ∙ ap (λ l. stream_turns (answered l)) own in
       late wanted 0 (labels c) vs
-      (in_order 0 (labels c) vs (each_firing (IsRightFiring cell) Takes (λ f r. takes_control wanted cell u f is fed r) (labels c) right) values turns)
+      (in_order 0 (labels c) vs (each_firing (IsRightFiring cell) Takes (λ f r. takes_control wanted cell u f is fed r)
+      (labels c) right) values turns)
       (each_firing (IsRightFiring cell) (IsGated wanted) (λ f r. is_gated wanted cell u f is fed r) (labels c) right)
 
   gate_controls : (wanted : Bool) (c : ℕ) → family (cell_at cells c).kind ≡ of.Gate wanted → (o : Option CellId)

@@ -106,7 +106,8 @@ module _ (old new : List Cell) (count : Dest → ℕ) (is : IsBuffered old new c
   met_arc : (x y : ℕ) (met : Met x y) → Reaches old (origin new x) met.w
   met_arc x y met =
       subst (λ k. Reaches old k met.w) met.origins
-      (fed_reaches old met.w met.p (home new met.v) (was_fed old new count is (port_of met.w met.p) met.v met.inside met.fed))
+      (fed_reaches old met.w met.p (home new met.v)
+      (was_fed old new count is (port_of met.w met.p) met.v met.inside met.fed))
 
   met_end : (x y : ℕ) → Met x y → Reaches old (origin new x) (origin new y)
   met_end x y met = elim met.rest [
@@ -149,7 +150,11 @@ module _ (old new : List Cell) (count : Dest → ℕ) (is : IsBuffered old new c
 
   after : (x z y : ℕ) → Onward x z ⊎ Met x z → Onward z y ⊎ Met z y → Onward x y ⊎ Met x y
   after x z y (inl one) (inl two) =
-      inl (record { origins = one.origins ∙ two.origins; behind = two.behind; less = let a = one.less in let b = two.less in omega arith })
+      inl (record {
+        origins = one.origins ∙ two.origins;
+        behind = two.behind;
+        less = let a = one.less in let b = two.less in omega arith;
+      })
   after x z y (inl one) (inr two) = inr (record {
     w = two.w;
     p = two.p;
@@ -200,7 +205,8 @@ module _ (old new : List Cell) (count : Dest → ℕ) (is : IsBuffered old new c
         let some = marks.marked u (joins old u v u way home) in
         let one = marks.one_mark u v way home in
         or_right (eqb u v) (not (eqb (mark_of old u) 0) && eqb (mark_of old u) (mark_of old v))
-        (and_from (not (eqb (mark_of old u) 0)) (eqb (mark_of old u) (mark_of old v)) (ap not (ne_eqb (mark_of old u) 0 some)) (eq-eqb (mark_of old u) (mark_of old v) one))
+        (and_from (not (eqb (mark_of old u) 0)) (eqb (mark_of old u) (mark_of old v))
+        (ap not (ne_eqb (mark_of old u) 0 some)) (eq-eqb (mark_of old u) (mark_of old v) one))
 
     pub no_loop : (b : ℕ) → length old ≤ b → Reaches new b b → ⊥
     no_loop b behind (steps, path) = elim (along b steps b path) [
@@ -212,7 +218,10 @@ module _ (old new : List Cell) (count : Dest → ℕ) (is : IsBuffered old new c
     ]
 
     loop_inside : (c : ℕ) → Reaches new c c → c < length old
-    loop_inside c loop = elim (cases_lt c (length old)) [ inl here ↦ here | inr behind ↦ absurd (no_loop c behind loop) ]
+    loop_inside c loop = elim (cases_lt c (length old)) [
+      | inl here ↦ here
+      | inr behind ↦ absurd (no_loop c behind loop)
+    ]
 
     marked_inside : (c : ℕ) → mark_of old c ≢ 0 → c < length old
     marked_inside c some = let loop = marks.cyclic c some in end_inside old c loop.0 c loop.1

@@ -64,14 +64,16 @@ module _ (old new : List Cell) (marks : (c : ℕ) → mark_of new c ≡ mark_of 
           let feed = loops_stay d u fed some other in
           let from = old_label old new labels u.0 (marked_inside u.0 some) in
           let to = old_label old new labels d.cell.0 (marked_inside d.cell.0 other) in
+          let count = λ (l : List Firing). length (received d.port.0 l) in
           let was : Pairs old labels d u.0 i j = record {
             gives =
-                subst (λ (l : List Firing). length (answered (take (suc i) l)) ≡ suc (length (answered (take i l)))) from pairs.gives;
+                subst (λ (l : List Firing). length (answered (take (suc i) l)) ≡ suc (length (answered (take i l))))
+                from pairs.gives;
             takes =
-                subst (λ (l : List Firing). length (received d.port.0 (take (suc j) l)) ≡ suc (length (received d.port.0 (take j l)))) to pairs.takes;
+                subst (λ (l : List Firing). count (take (suc j) l) ≡ suc (count (take j l))) to pairs.takes;
             same = ap (λ o. length (listed (loaded_from o)) + length (answered (take i (labels u.0)))) (sym feed)
                 ∙ ap (λ (l : List Firing). length (listed (loaded_at new d)) + length (answered (take i l))) (sym from)
-                ∙ pairs.same ∙ ap (λ (l : List Firing). length (received d.port.0 (take j l))) to;
+                ∙ pairs.same ∙ ap (λ (l : List Firing). count (take j l)) to;
           } in
           let goes = places.passing d u i j (ap cell_from (sym feed) ∙ fed) (λ none. some (marks u.0 ∙ none))
           (sym (marks u.0) ∙ same ∙ marks d.cell.0) was in

@@ -37,7 +37,8 @@ one_port d (e ∷ f ∷ dests) rising all has =
     let second = All-head (λ (x : Dest). x ≡ d) f dests (All-tail (λ (x : Dest). x ≡ d) e (f ∷ dests) all) in
     absurd (not_before d (ap (λ (x : Dest). is_before x d) (sym first) ∙ ap (is_before e) (sym second) ∙ rising.0))
 
-module _ (old new : List Cell) (count : Dest → ℕ) (is : IsBuffered old new count) (well_formed : WellFormed old) (shaped : AreCells new)
+module _ (old new : List Cell) (count : Dest → ℕ) (is : IsBuffered old new count) (well_formed : WellFormed old)
+    (shaped : AreCells new)
     (names : (c : ℕ) → c < length new → NamesWithin new c) (lists : (c : ℕ) → c < length new → ListsItsArcs new c)
     (right : HasMarks new)
     (marks : (c : ℕ) → mark_of new c ≡ mark_of old c) (between : StandBetweenNodes old new) where
@@ -94,7 +95,8 @@ module _ (old new : List Cell) (count : Dest → ℕ) (is : IsBuffered old new c
   still_nothing c here none d fed = elim (cases_lt d.cell.0 (length old)) [
     | inl inner ↦
         feeds_nothing c here none d
-        (was_fed old new count is d (record { 0 = c }) inner fed ∙ ap (λ k. Some (record { 0 = k })) (own old new count is c here))
+        (was_fed old new count is d (record { 0 = c }) inner fed
+        ∙ ap (λ k. Some (record { 0 = k })) (own old new count is c here))
     | inr behind ↦
         let h = fed_inside new d (record { 0 = c }) fed in
         let feed = buf_feed old new count is d.cell.0 behind h in
@@ -114,7 +116,9 @@ module _ (old new : List Cell) (count : Dest → ℕ) (is : IsBuffered old new c
       by (d ∷ dests) e =
           let few = is.few in
           let fed = (lists c (omega arith)).fed in
-          absurd (still_nothing c here none d (All-head (λ x. producer_of new x ≡ Some (record { 0 = c })) d dests (subst (All (λ x. producer_of new x ≡ Some (record { 0 = c }))) e fed)))
+          absurd (still_nothing c here none d
+          (All-head (λ x. producer_of new x ≡ Some (record { 0 = c })) d dests
+          (subst (All (λ x. producer_of new x ≡ Some (record { 0 = c }))) e fed)))
 
   counts : (c : ℕ) → c < length new → CountsResults new c
   counts c h = elim (cases_lt c (length old)) [
@@ -125,11 +129,13 @@ module _ (old new : List Cell) (count : Dest → ℕ) (is : IsBuffered old new c
         record {
           numbered =
               λ k n e. rule.numbered k n (same ∙ e)
-              ∙ ap (λ m. m + 1) (sym (same_sum (λ k. cond (is_output k) 1 0) new old c (omega arith) (omega arith) (λ i l. is.kinds i (omega arith))));
+              ∙ ap (λ m. m + 1) (sym (same_sum (λ k. cond (is_output k) 1 0) new old c (omega arith) (omega arith)
+              (λ i l. is.kinds i (omega arith))));
           last = λ k n e. no_dests c here (rule.last k n (same ∙ e));
           few = λ n e.
               subst (λ m. m ≤ 16777216)
-              (sym (same_sum (λ k. number_or_none (outer_length k)) new old (c + 1) (omega arith) (omega arith) (λ i l. is.kinds i (omega arith))))
+              (sym (same_sum (λ k. number_or_none (outer_length k)) new old (c + 1) (omega arith) (omega arith)
+              (λ i l. is.kinds i (omega arith))))
               (rule.few n (ap outer_length same ∙ e));
         }
     | inr behind ↦

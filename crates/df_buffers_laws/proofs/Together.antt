@@ -102,7 +102,12 @@ buffers_stand old new numbers well_formed plain graph =
     is_buffered old plain (within_old old well_formed plain) (ports_to_buffer (arcs old) numbers) new graph
     (all_fed old well_formed plain numbers)
 
-module _ (unique : MarksAreUnique) (skeletons : HasSkeletons) (certifies : CertifiesLeast) (old new : List Cell) (stages : List ℤ)
+more_than : (old new : List Cell) (ports : List Dest) → length new ≡ length old + length ports
+    → length ports ≡ length new - length (graph_of old)
+more_than old new ports long = let n = length-map old node_of in omega arith
+
+module _ (unique : MarksAreUnique) (skeletons : HasSkeletons) (certifies : CertifiesLeast) (old new : List Cell)
+    (stages : List ℤ)
     (flow : List ℕ) (well_formed : WellFormed old) (plain : HasNoBuffers old)
     (balance : IsBalance (skeleton_of old) stages flow)
     (made : AreMade old new (numbered stages)) where
@@ -181,7 +186,7 @@ module _ (unique : MarksAreUnique) (skeletons : HasSkeletons) (certifies : Certi
         (λ d. places (length old) d ports) on_arc
         (skeleton_arcs old) (each_fed old)
         ∙ places_in_order old (numbered stages) (length old)
-        ∙ (let count : length ports ≡ length new - length (graph_of old) = omega (arith, long) in ap (range_with_len (length old)) count)
+        ∙ ap (range_with_len (length old)) (more_than old new ports long)
         ∙ ap (λ k. range_with_len k (length new - length (graph_of old))) (sym n);
   }
 
@@ -265,5 +270,6 @@ module _ (unique : MarksAreUnique) (skeletons : HasSkeletons) (certifies : Certi
     results_stay = results_stay;
     realized = λ meaning realizes.
         still_realize old new marks is.few inputs_stay outputs_stay loops_stay results_stay
-        (λ inputs labels meet. carried_meet old new count is inputs labels meet (within_old old well_formed plain)) meaning realizes;
+        (λ inputs labels meet. carried_meet old new count is inputs labels meet
+        (within_old old well_formed plain)) meaning realizes;
   }

@@ -51,7 +51,8 @@ module _ (old : List Cell) (home depth : ℕ → ℕ) (chain : ℕ → List ℕ)
     ]
   ]
 
-module _ (old : List Cell) (home depth : ℕ → ℕ) (chain : ℕ → List ℕ) (done : List Dest) (graph : Graph) (placed : Placed old home depth chain done graph)
+module _ (old : List Cell) (home depth : ℕ → ℕ) (chain : ℕ → List ℕ) (done : List Dest) (graph : Graph)
+    (placed : Placed old home depth chain done graph)
     (d : Dest) (from : CellId) (fed : feeds graph d ≡ Some (Arc from)) (inside : d.cell.0 < length old) where
   within : d.cell.0 < length graph
   within = let count = placed.count in omega arith
@@ -67,7 +68,8 @@ module _ (old : List Cell) (home depth : ℕ → ℕ) (chain : ℕ → List ℕ)
   at_port : cell_from (feeds (insert graph d) d) ≡ Some (record { 0 = length graph })
   at_port =
       ap (λ (n : Node). cell_from (slice_get n.ports d.port.0)) (insert_same graph d within)
-      ∙ ap cell_from (slice_get-set_same node.ports d.port.0 (arc (length graph)) (slice_get_within node.ports d.port.0 (Arc from) fed))
+      ∙ ap cell_from (slice_get-set_same node.ports d.port.0 (arc (length graph))
+      (slice_get_within node.ports d.port.0 (Arc from) fed))
 
   past_insert : (c : ℕ) → length graph < c → node_at (insert graph d) c ≡ no_node
   past_insert c past = get_or_past (insert graph d) c no_node (let long = insert_length graph d within in omega arith)
@@ -104,7 +106,8 @@ module _ (old : List Cell) (home depth : ℕ → ℕ) (chain : ℕ → List ℕ)
           | inr (inl low) ↦
               inr (inr (differ, ap (λ (n : Node). slice_get n.ports e.port.0) (insert_other graph d within e.cell.0 low other)))
           | inr (inr past) ↦
-              inr (inr (differ, ap (λ (n : Node). slice_get n.ports e.port.0) (past_insert e.cell.0 past) ∙ sym (past_none old home depth chain done graph placed e (omega arith))))
+              let none = past_none old home depth chain done graph placed e (omega arith) in
+              inr (inr (differ, ap (λ (n : Node). slice_get n.ports e.port.0) (past_insert e.cell.0 past) ∙ sym none))
         ]
   ]
 
@@ -151,10 +154,12 @@ module _ (old : List Cell) (home depth : ℕ → ℕ) (chain : ℕ → List ℕ)
       port = ends.port;
       fed = elim (looks ends.port) [
         | inl is ↦
-            absurd (differ (same_number b from.0 (sym ends.fed ∙ ap (λ x. cell_from (feeds graph x)) is ∙ ap cell_from fed)))
+            absurd (differ (same_number b from.0
+            (sym ends.fed ∙ ap (λ x. cell_from (feeds graph x)) is ∙ ap cell_from fed)))
         | inr (inl (at, is)) ↦
             let none : None ≡ Some (record { 0 = b }) =
-            ap cell_from (sym (ap (feeds graph) at ∙ past_none old home depth chain done graph placed (port_of (length graph) 0) (omega arith)))
+            ap cell_from (sym (ap (feeds graph) at
+            ∙ past_none old home depth chain done graph placed (port_of (length graph) 0) (omega arith)))
             ∙ ends.fed in absurd (cc)
         | inr (inr (other, is)) ↦ ap cell_from is ∙ ends.fed
       ];
