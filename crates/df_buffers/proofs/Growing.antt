@@ -45,7 +45,9 @@ grows (d ∷ ports) graph all =
     let P = λ (e : Dest). e.cell.0 < length graph in
     let within : d.cell.0 < length graph = All-head P d ports all in
     let long = insert_length graph d in
-    let all_rest = All-weaker P (λ e. e.cell.0 < length (insert graph d)) (λ e h. omega (arith, h, long)) ports (All-tail P d ports all) in
+    let all_rest =
+    All-weaker P (λ e. e.cell.0 < length (insert graph d)) (λ e h. omega (arith, h, long)) ports
+    (All-tail P d ports all) in
     let rest = grows ports (insert graph d) all_rest in
     record {
       count = let more = rest.count in omega arith;

@@ -30,7 +30,8 @@ module _ (old made : List Cell) (count : Dest → ℕ) (is : IsBuffered old made
       let chain = is.chains b h l in
       (chain.0, ap (λ (ports : List Feed). cell_from (slice_get ports 0)) chain.1, chain.2)
 
-  module _ (new : List Cell) (numbers : ℕ → ℤ) (first table : List ℕ) (nodes_are : AreNodeStages old numbers (length old) first)
+  module _ (new : List Cell) (numbers : ℕ → ℤ) (first table : List ℕ)
+      (nodes_are : AreNodeStages old numbers (length old) first)
       (buffers_are : AreBufferStages made first (length made) table)
       (staged : StagedSoFar made table (length made) new) where
     has_stages : HasStages old new numbers

@@ -28,7 +28,8 @@ pub least_is : (s : SkeletonLists) (cells : List Cell) (c : ℕ) (least : CellId
 least_is s cells c least is h told =
     ap (λ (k : CellId). k.0) told
     ∙ ap (λ (t : SkeletonLists). (get_or t.least c no_cell_id).0) is
-    ∙ ap (λ (k : CellId). k.0) (get_or-map-range_with_len (least_of cells) 0 (length cells) c c no_cell_id h (omega arith))
+    ∙ ap (λ (k : CellId). k.0)
+    (get_or-map-range_with_len (least_of cells) 0 (length cells) c c no_cell_id h (omega arith))
 
 pub node_here : (cells : List Cell) (c : ℕ) → is_buf cells c ≡ false → node_of cells c ≡ c → is_node cells c ≡ true
 node_here cells c plain own = ap (λ b. not b && (node_of cells c == c)) plain ∙ eq-eqb (node_of cells c) c own

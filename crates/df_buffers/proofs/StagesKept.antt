@@ -104,5 +104,6 @@ module _ (old new : List Cell) (same : (d : Dest) → producer_of new d ≡ prod
     together = λ c d some one. there c d (marks.together c d (λ none. some (is c ∙ none)) (sym (is c) ∙ one ∙ is d));
     one_mark = λ c d there' home. is c ∙ marks.one_mark c d (back c d there') (back d c home) ∙ sym (is d);
     in_order = λ c m some less.
-        let first = marks.in_order c m some (subst (λ n. m < n) (is c) less) in (first.0, first.1, is first.0 ∙ first.2);
+        let first = marks.in_order c m some (subst (λ n. m < n) (is c) less) in
+        (first.0, first.1, is first.0 ∙ first.2);
   }

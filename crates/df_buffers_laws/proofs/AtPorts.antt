@@ -41,12 +41,21 @@ module _ (cells : List Cell) where
       by (Some u) fed = by_node (same_node cells (origin cells u.0) c) refl (ap (arc_from cells (port_of c p)) fed)
         where
           arc : SkeletonArc
-          arc = record { name = port_of c p; from = node_place cells (origin cells u.0); to = node_place cells c; weight = weight cells (origin cells u.0) (port_of c p); buffers = buffers_from cells u.0 }
+          arc = record {
+            name = port_of c p;
+            from = node_place cells (origin cells u.0);
+            to = node_place cells c;
+            weight = weight cells (origin cells u.0) (port_of c p);
+            buffers = buffers_from cells u.0;
+          }
 
           by_node : (b : Bool) → same_node cells (origin cells u.0) c ≡ b
               → at_port c p ≡ arc_between cells (port_of c p) u → All (IsAt c p) (cond b [] (arc ∷ []))
           by_node true e is = All-nil (IsAt c p)
-          by_node false e is = All-cons (IsAt c p) arc [] (record { name = refl; only = is ∙ ap (λ b. cond b [] (arc ∷ [])) e; via = u; fed = fed; apart = e }) (All-nil (IsAt c p))
+          by_node false e is =
+              All-cons (IsAt c p) arc []
+              (record { name = refl; only = is ∙ ap (λ b. cond b [] (arc ∷ [])) e; via = u; fed = fed; apart = e })
+              (All-nil (IsAt c p))
 
   stands_at : (c p : ℕ) → c < length cells → is_buf cells c ≡ false → p < length (cell_at cells c).ports
       → (arc : SkeletonArc) → IsAt c p arc → Stands arc
@@ -67,7 +76,10 @@ module _ (cells : List Cell) where
     where
       by : (b : Bool) → is_buf cells c ≡ b → All Stands (cond b [] (arcs_at_ports cells c))
       by true buf = All-nil Stands
-      by false plain = all_pieces Stands (at_port c) 0 (length (cell_at cells c).ports) (λ p k l. All-weaker (IsAt c p) Stands (λ arc at. stands_at c p inside plain (omega arith) arc at) (at_port c p) (ports_at c p))
+      by false plain =
+          all_pieces Stands (at_port c) 0 (length (cell_at cells c).ports)
+          (λ p k l. All-weaker (IsAt c p) Stands (λ arc at. stands_at c p inside plain (omega arith) arc at)
+          (at_port c p) (ports_at c p))
 
   pub all_stand : All Stands (arcs cells)
   all_stand = all_pieces Stands (arcs_into cells) 0 (length cells) (λ c k l. cell_arcs c (omega arith))

@@ -118,7 +118,8 @@ filled_count count numbers (a ∷ arcs) fills =
 
 -- ---- balance
 
-module _ (old new : List Cell) (count : Dest → ℕ) (is : IsBuffered old new count) (marks : (c : ℕ) → mark_of new c ≡ mark_of old c)
+module _ (old new : List Cell) (count : Dest → ℕ) (is : IsBuffered old new count)
+    (marks : (c : ℕ) → mark_of new c ≡ mark_of old c)
     (least : (c : ℕ) → c < length old → node_of old c < length old) (in_order : HasCountedNodes old) (numbers : ℕ → ℤ)
     (staged : HasStages old new numbers)
     (fills : Fills count numbers (arcs old)) (ends : EndsWithin (length (nodes old)) (arcs old)) where
@@ -149,7 +150,8 @@ module _ (old new : List Cell) (count : Dest → ℕ) (is : IsBuffered old new c
   pub balanced : IsBalanced new
   balanced = record {
     arcs = subst (AreBalancedArcs (node_stages new)) (sym (arcs_stay old new count is marks least))
-        (All-map (IsBalancedArc (node_stages new)) (filled count) (arcs old) (λ k d h. balanced_arc (get_or (arcs old) k d) (ends k d h) (fills k d h)));
+        (All-map (IsBalancedArc (node_stages new)) (filled count) (arcs old)
+        (λ k d h. balanced_arc (get_or (arcs old) k d) (ends k d h) (fills k d h)));
     buffers = λ b u is_one fed.
         let inside = fed_inside new (port_of b 0) u fed in
         elim (cases_lt b (length old)) [
@@ -158,7 +160,8 @@ module _ (old new : List Cell) (count : Dest → ℕ) (is : IsBuffered old new c
         ];
     nodes = λ c h. elim (cases_lt c (length old)) [
       | inl here ↦ one_stage c here ∙ ap (stage_of new) (sym (node_stays old new count is marks least c here))
-      | inr behind ↦ ap (stage_of new) (sym (ap (λ m. cond (m == 0) c (first_from (λ (cell : Cell). cell.mark == mark_of new c) 0 new)) (unmarked c behind)))
+      | inr behind ↦
+          ap (stage_of new) (sym (ap (λ m. cond (m == 0) c (first_from (λ (cell : Cell). cell.mark == mark_of new c) 0 new)) (unmarked c behind)))
     ];
   }
 
@@ -172,7 +175,8 @@ module _ (old new : List Cell) (count : Dest → ℕ) (is : IsBuffered old new c
       → IsCertificate new flow
   certified flow all dual tight = record {
     dual = subst (λ l. IsDualFlow (length (nodes new)) l flow) (sym (arcs_stay old new count is marks least))
-        (subst (λ (l : List ℕ). IsDualFlow (length l) (map (filled count) (arcs old)) flow) (sym (nodes_stay old new count is marks least)) (filled_dual count (length (nodes old)) (arcs old) flow dual));
+        (subst (λ (l : List ℕ). IsDualFlow (length l) (map (filled count) (arcs old)) flow)
+        (sym (nodes_stay old new count is marks least)) (filled_dual count (length (nodes old)) (arcs old) flow dual));
     value =
         ap (λ l. flow_value l flow) (arcs_stay old new count is marks least) ∙ filled_value count (arcs old) flow
         ∙ sym tight ∙ sym (counted all);

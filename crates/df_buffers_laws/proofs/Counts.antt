@@ -50,8 +50,13 @@ count_single q f a zero i h k others = absurd (omega arith)
 count_single q f a (suc n) i h k others =
     let whole = sum_by-append (λ x. cond (q x) 1 0) (f a) (flat_map f (range_with_len (a + 1) n)) in
     elim (cases_eq a i) [
-      | inl here ↦ whole ∙ ap (λ m. count_by q (f a) + m) (count_nothing q f (a + 1) n i (omega arith) others) ∙ (omega arith) ∙ ap (λ j. count_by q (f j)) here
-      | inr other ↦ whole ∙ ap (λ m. m + count_by q (flat_map f (range_with_len (a + 1) n))) (others a other) ∙ none_and (count_by q (flat_map f (range_with_len (a + 1) n))) ∙ count_single q f (a + 1) n i (omega (arith, other)) (omega arith) others
+      | inl here ↦
+          whole ∙ ap (λ m. count_by q (f a) + m) (count_nothing q f (a + 1) n i (omega arith) others) ∙ (omega arith)
+          ∙ ap (λ j. count_by q (f j)) here
+      | inr other ↦
+          whole ∙ ap (λ m. m + count_by q (flat_map f (range_with_len (a + 1) n))) (others a other)
+          ∙ none_and (count_by q (flat_map f (range_with_len (a + 1) n)))
+          ∙ count_single q f (a + 1) n i (omega (arith, other)) (omega arith) others
     ]
 
 -- as many as the excess
@@ -78,14 +83,18 @@ module _ (cells : List Cell) (numbers : ℕ → ℤ) where
   -- what holds of the name of each arc holds of each port to buffer
   pub ports_are : (P : Dest → Type 0) → ((arc : SkeletonArc) → Stands cells arc → P arc.name)
       → All P (ports_to_buffer (arcs cells) numbers)
-  ports_are P each = copies_of P (arcs cells) (All-weaker (Stands cells) (λ (arc : SkeletonArc). P arc.name) each (arcs cells) (all_stand cells))
+  ports_are P each =
+      copies_of P (arcs cells)
+      (All-weaker (Stands cells) (λ (arc : SkeletonArc). P arc.name) each (arcs cells) (all_stand cells))
 
   -- ---- how often a port is among them
 
   others_none : (d : Dest) (c p : ℕ) → same_port d (port_of c p) ≡ false
       → count_by (same_port d) (flat_map copies (at_port cells c p)) ≡ 0
   others_none d c p other = count_none (same_port d) (flat_map copies (at_port cells c p))
-      (copies_of (λ e. same_port d e ≡ false) (at_port cells c p) (All-weaker (IsAt cells c p) (λ (arc : SkeletonArc). same_port d arc.name ≡ false) (λ arc at. ap (same_port d) at.name ∙ other) (at_port cells c p) (ports_at cells c p)))
+      (copies_of (λ e. same_port d e ≡ false) (at_port cells c p)
+      (All-weaker (IsAt cells c p) (λ (arc : SkeletonArc). same_port d arc.name ≡ false)
+      (λ arc at. ap (same_port d) at.name ∙ other) (at_port cells c p) (ports_at cells c p)))
 
   other_cells : (d : Dest) (c : ℕ) → (c ≡ d.cell.0 → ⊥)
       → count_by (same_port d) (flat_map copies (arcs_into cells c)) ≡ 0
@@ -96,7 +105,9 @@ module _ (cells : List Cell) (numbers : ℕ → ℤ) where
       by false = count_none (same_port d) (flat_map copies (arcs_at_ports cells c))
           (copies_of (λ e. same_port d e ≡ false) (arcs_at_ports cells c)
           (all_pieces (λ arc. same_port d arc.name ≡ false) (at_port cells c) 0 (length (cell_at cells c).ports)
-          (λ p k l. All-weaker (IsAt cells c p) (λ (arc : SkeletonArc). same_port d arc.name ≡ false) (λ arc at. ap (same_port d) at.name ∙ other_cell d (port_of c p) (λ e. other (sym e))) (at_port cells c p) (ports_at cells c p))))
+          (λ p k l. All-weaker (IsAt cells c p) (λ (arc : SkeletonArc). same_port d arc.name ≡ false)
+          (λ arc at. ap (same_port d) at.name ∙ other_cell d (port_of c p) (λ e. other (sym e))) (at_port cells c p)
+          (ports_at cells c p))))
 
   pub copies_counted : (arc : SkeletonArc) → Stands cells arc
       → count_by (same_port arc.name) (ports_to_buffer (arcs cells) numbers) ≡ natural (excess numbers arc)

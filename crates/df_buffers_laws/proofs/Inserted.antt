@@ -122,7 +122,9 @@ module _ (old : List Cell) (plain : HasNoBuffers old) (arcs : ArcsWithin old) (a
     | inr behind ↦ let less = (other c behind h).less in absurd (omega arith)
   ]
   met (suc m) c few h = elim (cases_lt c (length old)) [
-    | inl here ↦ ap (λ b. cond b (met_over new m (back new c) ++ c ∷ []) []) (plain_new c here) ∙ sym (own_chain old arcs all c here)
+    | inl here ↦
+        ap (λ b. cond b (met_over new m (back new c) ++ c ∷ []) []) (plain_new c here)
+        ∙ sym (own_chain old arcs all c here)
     | inr behind ↦
         let node = other c behind h in
         let less = node.less in
@@ -163,7 +165,9 @@ module _ (old : List Cell) (plain : HasNoBuffers old) (arcs : ArcsWithin old) (a
     | inr behind ↦
         let h = fed_inside new (port_of c p) u fed in
         let less = (other c behind h).less in
-        let at = only p (other c behind h).from (ap (λ (l : List Feed). cell_from (slice_get l p)) (sym (other_ports c behind h)) ∙ fed) in
+        let at =
+        only p (other c behind h).from
+        (ap (λ (l : List Feed). cell_from (slice_get l p)) (sym (other_ports c behind h)) ∙ fed) in
         omega arith
   ]
     where

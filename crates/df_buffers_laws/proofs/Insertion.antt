@@ -22,7 +22,8 @@ use Rattle.df_buffers_laws.proofs.Ports.{slice_get-set_same, slice_get-set_other
 
 module _ (graph : Graph) (d : Dest) (within : d.cell.0 < length graph) where
   abbrev fed_node : Node
-  fed_node = record (node_at graph d.cell.0) { ports = set (node_at graph d.cell.0).ports d.port.0 (arc (length graph)) }
+  fed_node =
+      let node = node_at graph d.cell.0 in record node { ports = set node.ports d.port.0 (arc (length graph)) }
 
   pub insert_length : length (insert graph d) ≡ length graph + 1
   insert_length = length-set (graph ++ buffer_for graph d ∷ []) d.cell.0 _ ∙ length_push graph (buffer_for graph d)
@@ -94,7 +95,8 @@ module _ (old : List Cell) (home depth : ℕ → ℕ) (chain : ℕ → List ℕ)
       (sym (slice_get-map (over home) (node_at graph d.cell.0).ports d.port.0)
       ∙ ap (λ (l : List Feed). slice_get l d.port.0) (placed.ports d.cell.0 inside) ∙ fed)
 
-  module _ (done : List Dest) (graph : Graph) (placed : Placed done graph) (d : Dest) (u : CellId) (fed : feed_of old d ≡ Some (Arc u))
+  module _ (done : List Dest) (graph : Graph) (placed : Placed done graph) (d : Dest) (u : CellId)
+      (fed : feed_of old d ≡ Some (Arc u))
       (inside : d.cell.0 < length old) (home_is : home (length graph) ≡ u.0)
       (depth_is : depth (length graph) ≡ suc (count_by (same_port d) done))
       (chain_is : chain (length graph) ≡ places (length old) d done ++ length graph ∷ []) where
@@ -137,7 +139,8 @@ module _ (old : List Cell) (home depth : ℕ → ℕ) (chain : ℕ → List ℕ)
         × (chain v.0 ≡ places (length old) e (done ++ d ∷ []))
 
     kept : (e : Dest) (v : CellId) → same_port e d ≡ false
-        → (depth v.0 ≡ count_by (same_port e) done) × (v.0 < length graph) × (chain v.0 ≡ places (length old) e done) → IsRight e v
+        → (depth v.0 ≡ count_by (same_port e) done) × (v.0 < length graph) × (chain v.0 ≡ places (length old) e done)
+        → IsRight e v
     kept e v other right =
         let more = counted_more e d false done other in
         let long = insert_length graph d within in (
@@ -163,7 +166,8 @@ module _ (old : List Cell) (home depth : ℕ → ℕ) (chain : ℕ → List ℕ)
     next_fed e v h here = let count = placed.count in elim (cases_eq e.cell.0 d.cell.0) [
       | inr other ↦
           kept e v (other_cell e d other) (placed.fed e v h
-          (ap (λ (n : Node). cell_from (slice_get n.ports e.port.0)) (sym (insert_other graph d within e.cell.0 (omega arith) other)) ∙ here))
+          (ap (λ (n : Node). cell_from (slice_get n.ports e.port.0))
+          (sym (insert_other graph d within e.cell.0 (omega arith) other)) ∙ here))
       | inl same ↦
           let now : cell_from (slice_get (set node.ports d.port.0 (arc (length graph))) e.port.0) ≡ Some v =
           sym (ap (λ k. cell_from (slice_get (node_at (insert graph d) k).ports e.port.0)) same
@@ -208,7 +212,9 @@ module _ (old : List Cell) (home depth : ℕ → ℕ) (chain : ℕ → List ℕ)
 
     pub next_placed : Placed (done ++ d ∷ []) (insert graph d)
     next_placed = record {
-      count = let count = placed.count in let long = insert_length graph d within in let more = length_push done d in omega arith;
+      count =
+          let count = placed.count in
+          let long = insert_length graph d within in let more = length_push done d in omega arith;
       kinds = next_kinds;
       ports = next_ports;
       fed = next_fed;

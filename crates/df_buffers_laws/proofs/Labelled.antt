@@ -108,7 +108,8 @@ buf_right : (cell : Cell) (u : CellId) (g : ℕ) (s : Stream) → cell.kind ≡ 
     → AllByRecursion (IsRightFiring cell) (map (pass g) s)
 buf_right cell u g s is ports =
     subst (λ (l : List Feed). AllByRecursion (IsRightFiring (record cell { ports = l })) (map (pass g) s)) (sym ports)
-    (subst (λ (k : Kind). AllByRecursion (IsRightFiring (record cell { kind = k; ports = Arc u ∷ [] })) (map (pass g) s)) (sym is) (passes_right cell u g s))
+    (subst (λ (k : Kind). AllByRecursion (IsRightFiring (record cell { kind = k; ports = Arc u ∷ [] }))
+    (map (pass g) s)) (sym is) (passes_right cell u g s))
 
 -- ---- cells with BUF cells
 
@@ -155,7 +156,8 @@ module _ (old new : List Cell) (count : Dest → ℕ) (is : IsBuffered old new c
       | inl here ↦ loads_stay old new count is d here ∙ (meet d.cell.0).unloaded d.port.0
       | inr behind ↦ elim (cases_lt d.cell.0 (length new)) [
         | inl inside ↦ buf_unloaded old new count is d.cell.0 d.port.0 behind inside
-        | inr past ↦ ap (λ (cell : Cell). loaded_from (slice_get cell.ports d.port.0)) (get_or_past new d.cell.0 no_cell past)
+        | inr past ↦
+            ap (λ (cell : Cell). loaded_from (slice_get cell.ports d.port.0)) (get_or_past new d.cell.0 no_cell past)
       ]
     ]
 
@@ -169,8 +171,10 @@ module _ (old new : List Cell) (count : Dest → ℕ) (is : IsBuffered old new c
     sends : (u : ℕ) → u < length new → Sends u
     sends u h = elim (cases_lt u (length old)) [
       | inl here ↦
-          let same : now u ≡ labels (origin new u) = old_label old new labels u here ∙ ap labels (sym (own old new count is u here)) in
-          let part : gate_part new u ≡ gate_part old (origin new u) = gates_stay old new count is u here ∙ ap (gate_part old) (sym (own old new count is u here)) in
+          let same : now u ≡ labels (origin new u) =
+          old_label old new labels u here ∙ ap labels (sym (own old new count is u here)) in
+          let part : gate_part new u ≡ gate_part old (origin new u) =
+          gates_stay old new count is u here ∙ ap (gate_part old) (sym (own old new count is u here)) in
           record {
             values = ap (λ l. stream_values (answered l)) same;
             gone = 0;
@@ -208,7 +212,8 @@ module _ (old new : List Cell) (count : Dest → ℕ) (is : IsBuffered old new c
     all_brought cells d label none = ap (λ o. drop (length (listed o)) (received d.port.0 label)) none
 
     commute : (a b : ℕ) (ts : List Turn) → map (later a) (map (later b) ts) ≡ map (later b) (map (later a) ts)
-    commute a b ts = let e : b + a ≡ a + b = omega arith in sums b a ts ∙ ap (λ k. map (later k) ts) e ∙ sym (sums a b ts)
+    commute a b ts =
+        let e : b + a ≡ a + b = omega arith in sums b a ts ∙ ap (λ k. map (later k) ts) e ∙ sym (sums a b ts)
 
     old_shifts : (c p : ℕ) (u : CellId) → c < length old → producer_of new (port_of c p) ≡ Some u
         → map (later (gate_part new u.0)) (stream_turns (brought new (port_of c p) (now c))) ≡ map
@@ -236,9 +241,11 @@ module _ (old new : List Cell) (count : Dest → ℕ) (is : IsBuffered old new c
         → (p ≡ 0) × (origin new b ≡ origin new u.0)
     buf_origin_of b zero u behind h fed =
         let feed = buf_feed old new count is b behind h in
-        (refl, buf_origin old new count is b feed.0 behind h feed.1 feed.2 ∙ ap (origin new) (sym (only_feed old new count is b 0 u behind h fed)))
+        let only = sym (only_feed old new count is b 0 u behind h fed) in
+        (refl, buf_origin old new count is b feed.0 behind h feed.1 feed.2 ∙ ap (origin new) only)
     buf_origin_of b (suc p) u behind h fed =
-        let none = ap (λ (ports : List Feed). cell_from (slice_get ports (suc p))) (is.chains b behind h).1 in absurd (cc)
+        let none = ap (λ (ports : List Feed). cell_from (slice_get ports (suc p))) (is.chains b behind h).1 in
+        absurd (cc)
 
     buf_arcs : (b p : ℕ) (u : CellId) → length old ≤ b → b < length new → producer_of new (port_of b p) ≡ Some u
         → stream_values (received p (now b)) ≡ listed (loaded_at new (port_of b p)) ++ stream_values
@@ -268,7 +275,8 @@ module _ (old new : List Cell) (count : Dest → ℕ) (is : IsBuffered old new c
         ap stream_turns (all_brought new (port_of b p) (now b) (none_loaded (port_of b p)))
         ∙ ap (λ l. stream_turns (received p l)) (buf_label b behind h)
         ∙ ap (λ q. stream_turns (received q (map (pass g) stream))) from.0 ∙ ap stream_turns (passed_taken g stream) in
-        let part : gate_part new u.0 + sent.gone ≡ g = let e = sent.part in let same = ap (gate_part old) from.1 in omega arith in
+        let part : gate_part new u.0 + sent.gone ≡ g =
+        let e = sent.part in let same = ap (gate_part old) from.1 in omega arith in
         let both : map (later sent.gone) (map (later (gate_part new u.0)) ts) ≡ map (later sent.gone) us =
         sums (gate_part new u.0) sent.gone ts ∙ ap (λ k. map (later k) ts) part
         ∙ turns_later g stream (late (origin new b))
@@ -290,7 +298,8 @@ module _ (old new : List Cell) (count : Dest → ℕ) (is : IsBuffered old new c
           arcs = λ p u fed. old_arcs c p u h fed;
           shifts = λ p u fed. old_shifts c p u h fed;
           right = λ none. subst (AllByRecursion (IsRightFiring (cell_at new c))) same
-              (all_right new (cell_at old c) (cell_at new c) (is.kinds c h) (is.feeds c h) (labels c) (at.right (sym (same_sources inputs c h) ∙ none)));
+              (all_right new (cell_at old c) (cell_at new c) (is.kinds c h) (is.feeds c h) (labels c)
+              (at.right (sym (same_sources inputs c h) ∙ none)));
           unloaded = λ p. none_loaded (port_of c p);
           outputs =
               λ k n e. ap (λ (l : List Firing). length l) (old_label old new labels c h)
@@ -306,15 +315,24 @@ module _ (old new : List Cell) (count : Dest → ℕ) (is : IsBuffered old new c
         let stream = answered label in
         let same = sym (buf_label b behind h) in
         let at = meet (origin new b) in
-        let turns : map (later g) (turns_of (map (pass g) stream)) ≡ stream_turns stream = ap (map (later g)) (passed_turns g stream) ∙ turns_later g stream (late (origin new b)) in
+        let turns : map (later g) (turns_of (map (pass g) stream)) ≡ stream_turns stream =
+        ap (map (later g)) (passed_turns g stream) ∙ turns_later g stream (late (origin new b)) in
         record {
           sources = λ values e. let none = ap (λ k. source_list k (values_of new inputs b)) kind' in absurd (cc);
-          single = subst (λ l. AllByRecursion (λ t. length t ≡ 1) (turns_of l)) same (single_back g (turns_of (map (pass g) stream))
-              (subst (AllByRecursion (λ t. length t ≡ 1)) (sym turns) (all_answered (λ t. length t ≡ 1) label at.single)));
-          rising = subst (λ l. AreRising (turns_of l)) same (rising_back g (turns_of (map (pass g) stream)) (subst AreRising (sym turns) (rising_answered label at.rising)));
+          single =
+              subst (λ l. AllByRecursion (λ t. length t ≡ 1) (turns_of l)) same
+              (single_back g (turns_of (map (pass g) stream))
+              (subst (AllByRecursion (λ t. length t ≡ 1)) (sym turns)
+              (all_answered (λ t. length t ≡ 1) label at.single)));
+          rising =
+              subst (λ l. AreRising (turns_of l)) same
+              (rising_back g (turns_of (map (pass g) stream))
+              (subst AreRising (sym turns) (rising_answered label at.rising)));
           arcs = λ p u fed. buf_arcs b p u behind h fed;
           shifts = λ p u fed. buf_shifts b p u behind h fed;
-          right = λ none. subst (AllByRecursion (IsRightFiring (cell_at new b))) same (buf_right (cell_at new b) chain.0 g stream kind' chain.1);
+          right = λ none.
+              subst (AllByRecursion (IsRightFiring (cell_at new b))) same
+              (buf_right (cell_at new b) chain.0 g stream kind' chain.1);
           unloaded = λ p. none_loaded (port_of b p);
           outputs = λ k n e. absurd (cc);
         }

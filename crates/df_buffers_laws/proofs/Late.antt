@@ -65,8 +65,12 @@ late wanted i (f ∷ label) (v ∷ vs) order gates =
   where
     by : (b : Bool) → is_truth wanted v ≡ b → AreLate (first_from (is_truth wanted) (i + 1) vs) label
         → AreLate (cond b i (first_from (is_truth wanted) (i + 1) vs)) (f ∷ label)
-    by true passes rest = late_rest i f.turn f.answer (answered label) (late_turn i i f.turn order.0 (omega arith)) (late_after i (i + 1) label vs (omega arith) order.2)
-    by false stops rest = subst (λ o. AllByRecursion (λ x. IsLate (first_from (is_truth wanted) (i + 1) vs) x.0) (at_turn f.turn o ++ answered label)) (sym (gates.0.stops v order.1 stops)) rest
+    by true passes rest =
+        late_rest i f.turn f.answer (answered label) (late_turn i i f.turn order.0 (omega arith))
+        (late_after i (i + 1) label vs (omega arith) order.2)
+    by false stops rest =
+        subst (λ o. AllByRecursion (λ x. IsLate (first_from (is_truth wanted) (i + 1) vs) x.0)
+        (at_turn f.turn o ++ answered label)) (sym (gates.0.stops v order.1 stops)) rest
 
 -- ---- from what a gate receives
 
@@ -83,7 +87,8 @@ in_order i (f ∷ label) vs takes values turns =
     by : (o : Option Value) → get_or f.taken 0 None ≡ o → (vs : List Value) → is_some o ≡ true
         → stream_values (at_turn f.turn o ++ received 0 label) ≡ vs
         → stream_turns (at_turn f.turn o ++ received 0 label) ≡ stream_turns (answered (in_order_from i vs))
-        → ((ws : List Value) → stream_values (received 0 label) ≡ ws → stream_turns (received 0 label) ≡ stream_turns (answered (in_order_from (i + 1) ws)) → InOrder (i + 1) label ws)
+        → ((ws : List Value) → stream_values (received 0 label) ≡ ws
+        → stream_turns (received 0 label) ≡ stream_turns (answered (in_order_from (i + 1) ws)) → InOrder (i + 1) label ws)
         → InOrder i (f ∷ label) vs
     by None is vs some values turns rest = absurd (cc)
     by (Some v) is [] some values turns rest = absurd (cc)
@@ -184,7 +189,8 @@ module _ (cells : List Cell) (inputs : List (List Value)) (labels : Labels) (mee
   gate_late wanted c u runs is fed source =
       let vs = run_values runs in
       let cell = cell_at cells c in
-      let own : labels u.0 ≡ in_order_from 0 vs = (meet u.0).sources vs (ap (λ k. source_list k (values_of cells inputs u.0)) source) in
+      let own : labels u.0 ≡ in_order_from 0 vs =
+      (meet u.0).sources vs (ap (λ k. source_list k (values_of cells inputs u.0)) source) in
       let none = (meet c).unloaded 0 in
       let right = (meet c).right (no_list cell.kind wanted (values_of cells inputs c) is) in
       let values : stream_values (received 0 (labels c)) ≡ vs =
@@ -200,7 +206,8 @@ module _ (cells : List Cell) (inputs : List (List Value)) (labels : Labels) (mee
       ∙ zeros (stream_turns (answered (labels u.0)))
       ∙ ap (λ l. stream_turns (answered l)) own in
       late wanted 0 (labels c) vs
-      (in_order 0 (labels c) vs (each_firing (IsRightFiring cell) Takes (λ f r. takes_control wanted cell u f is fed r) (labels c) right) values turns)
+      (in_order 0 (labels c) vs (each_firing (IsRightFiring cell) Takes (λ f r. takes_control wanted cell u f is fed r)
+      (labels c) right) values turns)
       (each_firing (IsRightFiring cell) (IsGated wanted) (λ f r. is_gated wanted cell u f is fed r) (labels c) right)
 
   gate_controls : (wanted : Bool) (c : ℕ) → family (cell_at cells c).kind ≡ of.Gate wanted → (o : Option CellId)
@@ -213,7 +220,8 @@ module _ (cells : List Cell) (inputs : List (List Value)) (labels : Labels) (mee
         | inl ctl ↦
             subst (λ vs. AreLate (first_truth wanted vs) (labels c)) (sym (ap control_values ctl.1))
             (gate_late wanted c u ctl.0 is fed (ap (λ k. (cell_at cells k).kind) (sym straight) ∙ ctl.1))
-        | inr none ↦ subst (λ vs. AreLate (first_truth wanted vs) (labels c)) (sym none) (late_anyway (answered (labels c)))
+        | inr none ↦
+            subst (λ vs. AreLate (first_truth wanted vs) (labels c)) (sym none) (late_anyway (answered (labels c)))
       ]
 
   pub late_enough : (c : ℕ) → AreLate (gate_part cells c) (labels c)

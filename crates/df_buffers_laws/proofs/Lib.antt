@@ -19,5 +19,6 @@ pub mod Skeleton
 pub mod Balance
 pub mod PortSums
 pub mod Rules
+pub mod Realized
 pub mod Together
 pub mod SameSkeletons

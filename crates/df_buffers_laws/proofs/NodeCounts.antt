@@ -37,7 +37,8 @@ placed p a (suc n) i h = by (p a) refl i h (λ j l. placed p (a + 1) n j l)
     step b x is low =
         let e : x - a ≡ suc (x - (a + 1)) = omega arith in
         ap (λ k. length (filter p (range_with_len a k))) e
-        ∙ ap (λ t. length (cond t (a ∷ filter p (range_with_len (a + 1) (x - (a + 1)))) (filter p (range_with_len (a + 1) (x - (a + 1)))))) is
+        ∙ ap (λ t. length (cond t (a ∷ filter p (range_with_len (a + 1) (x - (a + 1))))
+        (filter p (range_with_len (a + 1) (x - (a + 1)))))) is
         ∙ by_bool b (filter p (range_with_len (a + 1) (x - (a + 1))))
       where
         by_bool : (b : Bool) (l : List ℕ) → length (cond b (a ∷ l) l) ≡ cond b 1 0 + length l
@@ -46,12 +47,14 @@ placed p a (suc n) i h = by (p a) refl i h (λ j l. placed p (a + 1) n j l)
 
     by : (b : Bool) → p a ≡ b → (i : ℕ)
         → i < length (cond b (a ∷ filter p (range_with_len (a + 1) n)) (filter p (range_with_len (a + 1) n)))
-        → ((j : ℕ) → j < length (filter p (range_with_len (a + 1) n)) → IsPlaced p (a + 1) n j (get_or (filter p (range_with_len (a + 1) n)) j 0))
+        → ((j : ℕ) → j < length (filter p (range_with_len (a + 1) n))
+        → IsPlaced p (a + 1) n j (get_or (filter p (range_with_len (a + 1) n)) j 0))
         → IsPlaced p a (suc n) i
         (get_or (cond b (a ∷ filter p (range_with_len (a + 1) n)) (filter p (range_with_len (a + 1) n))) i 0)
     by true is zero h more =
         let none : a - a ≡ 0 = omega arith in
-        record { low = omega arith; high = omega arith; passes = is; before = ap (λ k. length (filter p (range_with_len a k))) none }
+        let before = ap (λ k. length (filter p (range_with_len a k))) none in
+        record { low = omega arith; high = omega arith; passes = is; before = before }
     by true is (suc i) h more =
         let at = more i (omega arith) in
         let low = at.low in let high = at.high in let before = at.before in
@@ -73,7 +76,8 @@ place_of_node cells i h =
     let own : node_of cells x ≡ x = eqb-true (node_of cells x) x parts.1 in
     let high = at.high in
     let all : x - 0 ≡ x = omega arith in
-    (ap (count_below cells) own ∙ ap (λ k. length (filter (is_node cells) (range_with_len 0 k))) (sym all) ∙ at.before, omega arith)
+    let before = ap (λ k. length (filter (is_node cells) (range_with_len 0 k))) (sym all) ∙ at.before in
+    (ap (count_below cells) own ∙ before, omega arith)
 
 -- ---- the node of a node
 
@@ -85,9 +89,13 @@ first_passes p n [] d i h passes = absurd (omega arith)
 first_passes p n (x ∷ xs) d i h passes = by (p x) refl i h passes (λ j l q. first_passes p (n + 1) xs d j l q)
   where
     by : (b : Bool) → p x ≡ b → (i : ℕ) → i < length (x ∷ xs) → p (get_or (x ∷ xs) i d) ≡ true
-        → ((j : ℕ) → j < length xs → p (get_or xs j d) ≡ true → (n + 1 ≤ first_from p (n + 1) xs) × (first_from p (n + 1) xs ≤ n + 1 + j) × (p (get_or xs (first_from p (n + 1) xs - (n + 1)) d) ≡ true))
-        → (n ≤ cond b n (first_from p (n + 1) xs)) × (cond b n (first_from p (n + 1) xs) ≤ n + i) × (p (get_or (x ∷ xs) (cond b n (first_from p (n + 1) xs) - n) d) ≡ true)
-    by true is i h passes more = let none : n - n ≡ 0 = omega arith in (omega arith, omega arith, ap (λ k. p (get_or (x ∷ xs) k d)) none ∙ is)
+        → ((j : ℕ) → j < length xs → p (get_or xs j d) ≡ true
+        → (n + 1 ≤ first_from p (n + 1) xs) × (first_from p (n + 1) xs ≤ n + 1 + j)
+        × (p (get_or xs (first_from p (n + 1) xs - (n + 1)) d) ≡ true))
+        → (n ≤ cond b n (first_from p (n + 1) xs)) × (cond b n (first_from p (n + 1) xs) ≤ n + i)
+        × (p (get_or (x ∷ xs) (cond b n (first_from p (n + 1) xs) - n) d) ≡ true)
+    by true is i h passes more =
+        let none : n - n ≡ 0 = omega arith in (omega arith, omega arith, ap (λ k. p (get_or (x ∷ xs) k d)) none ∙ is)
     by false is zero h passes more = absurd (cc)
     by false is (suc i) h passes more =
         let at = more i (omega arith) passes in
@@ -100,10 +108,14 @@ module _ (cells : List Cell) (c : ℕ) (h : c < length cells) where
   found = first_from (λ (cell : Cell). cell.mark == mark_of cells c) 0 cells
 
   facts : (0 ≤ found) × (found ≤ 0 + c) × ((mark_of cells (found - 0) == mark_of cells c) ≡ true)
-  facts = first_passes (λ (cell : Cell). cell.mark == mark_of cells c) 0 cells no_cell c h (eq-eqb (mark_of cells c) (mark_of cells c) refl)
+  facts =
+      first_passes (λ (cell : Cell). cell.mark == mark_of cells c) 0 cells no_cell c h
+      (eq-eqb (mark_of cells c) (mark_of cells c) refl)
 
   same_mark : mark_of cells found ≡ mark_of cells c
-  same_mark = let none : found ≡ found - 0 = omega arith in ap (mark_of cells) none ∙ eqb-true (mark_of cells (found - 0)) (mark_of cells c) facts.2
+  same_mark =
+      let none : found ≡ found - 0 = omega arith in
+      ap (mark_of cells) none ∙ eqb-true (mark_of cells (found - 0)) (mark_of cells c) facts.2
 
   node_facts : (node_of cells c ≤ c) × (node_of cells (node_of cells c) ≡ node_of cells c)
   node_facts = by (mark_of cells c == 0) refl
@@ -116,7 +128,8 @@ module _ (cells : List Cell) (c : ℕ) (h : c < length cells) where
       by false e =
           let is : node_of cells c ≡ found = ap (λ b. cond b c found) e in
           let low = facts.1 in
-          (omega arith, ap (node_of cells) is ∙ ap (λ m. cond (m == 0) found (first_from (λ (cell : Cell). cell.mark == m) 0 cells)) same_mark ∙ ap (λ b. cond b found found) e ∙ sym is)
+          let first = ap (λ m. cond (m == 0) found (first_from (λ (cell : Cell). cell.mark == m) 0 cells)) same_mark in
+          (omega arith, ap (node_of cells) is ∙ first ∙ ap (λ b. cond b found found) e ∙ sym is)
 
 -- ---- counts
 
@@ -152,13 +165,16 @@ node_room : (cells : List Cell) (c : ℕ) → c < length cells → is_node cells
 node_room cells c h node =
     let k = length cells - suc c in
     let n : length cells ≡ c + suc k = omega arith in
-    let all : length (nodes cells) ≡ count_below cells c + (cond (is_node cells c) 1 0 + length (filter (is_node cells) (range_with_len (c + 1) k))) =
+    let behind = length (filter (is_node cells) (range_with_len (c + 1) k)) in
+    let all : length (nodes cells) ≡ count_below cells c + (cond (is_node cells c) 1 0 + behind) =
     ap (λ m. length (filter (is_node cells) (range_with_len 0 m))) n ∙ filtered (is_node cells) c k in
     let one : bit (is_node cells c) ≡ 1 = ap bit node in
     omega arith
 
 few_below : (cells : List Cell) (c : ℕ) → count_below cells c ≤ c
-few_below cells c = let a = length-filter (is_node cells) (range_with_len 0 c) in let b = count_by-le-length (is_node cells) (range_with_len 0 c) in let n = length-range_with_len 0 c in omega arith
+few_below cells c =
+    let a = length-filter (is_node cells) (range_with_len 0 c) in
+    let b = count_by-le-length (is_node cells) (range_with_len 0 c) in let n = length-range_with_len 0 c in omega arith
 
 -- ---- all of it
 

@@ -58,7 +58,9 @@ places_none n d often (e ∷ ports) all =
     (All-tail (λ x. (same_port x d ≡ false) × (same_port d x ≡ false)) e ports all)
 
 pub range_join : (a n k : ℕ) → range_with_len a n ++ range_with_len (a + n) k ≡ range_with_len a (n + k)
-range_join a zero k = let e : a + 0 ≡ a = omega arith in let f : k ≡ 0 + k = omega arith in ap (λ m. range_with_len m k) e ∙ ap (range_with_len a) f
+range_join a zero k =
+    let e : a + 0 ≡ a = omega arith in
+    let f : k ≡ 0 + k = omega arith in ap (λ m. range_with_len m k) e ∙ ap (range_with_len a) f
 range_join a (suc n) k =
     let e : a + suc n ≡ a + 1 + n = omega arith in
     let f : suc (n + k) ≡ suc n + k = omega arith in
@@ -82,9 +84,11 @@ in_order n often [] differ = refl
 in_order n often (d ∷ ports) differ =
     let k = often d in
     let rest = each_often often ports in
-    let count : k + length rest ≡ length (replicate k d ++ rest) = sym (length-append (replicate k d) rest ∙ ap (λ m. m + length rest) (length-replicate k d)) in
+    let count : k + length rest ≡ length (replicate k d ++ rest) =
+    sym (length-append (replicate k d) rest ∙ ap (λ m. m + length rest) (length-replicate k d)) in
     ap (λ l. l ++ flat_map (λ e. places n e (replicate k d ++ rest)) ports)
-    (places_own n k d rest ∙ ap (λ l. range_with_len n k ++ l) (places_none (n + k) d often ports differ.0) ∙ append-nil (range_with_len n k))
+    (places_own n k d rest ∙ ap (λ l. range_with_len n k ++ l) (places_none (n + k) d often ports differ.0)
+    ∙ append-nil (range_with_len n k))
     ∙ ap (λ l. range_with_len n k ++ l) (later_places n k d rest ports differ.0 ∙ in_order (n + k) often ports differ.1)
     ∙ range_join n k (length rest) ∙ ap (range_with_len n) count
 
@@ -97,7 +101,8 @@ differ_append : (xs ys : List Dest) → Differ xs → Differ ys → Apart xs ys 
 differ_append [] ys one two apart = two
 differ_append (x ∷ xs) ys one two apart =
     let P = λ (x : Dest). All (λ y. (same_port y x ≡ false) × (same_port x y ≡ false)) ys in
-    (All-append (λ y. (same_port y x ≡ false) × (same_port x y ≡ false)) xs ys one.0 (All-head P x xs apart), differ_append xs ys one.1 two (All-tail P x xs apart))
+    let first = All-append (λ y. (same_port y x ≡ false) × (same_port x y ≡ false)) xs ys one.0 (All-head P x xs apart) in
+    (first, differ_append xs ys one.1 two (All-tail P x xs apart))
 
 -- pieces with keys of their own
 differ_pieces : (key : Dest → ℕ) → ((d e : Dest) → (key d ≡ key e → ⊥) → same_port d e ≡ false)
@@ -106,7 +111,8 @@ differ_pieces : (key : Dest → ℕ) → ((d e : Dest) → (key d ≡ key e → 
 differ_pieces key tells f a zero each own = tt
 differ_pieces key tells f a (suc n) each own =
     differ_append (f a) (flat_map f (range_with_len (a + 1) n)) (each a) (differ_pieces key tells f (a + 1) n each own)
-    (All-weaker (λ d. key d ≡ a) (λ x. All (λ y. (same_port y x ≡ false) × (same_port x y ≡ false)) (flat_map f (range_with_len (a + 1) n)))
+    (All-weaker (λ d. key d ≡ a) (λ x. All (λ y. (same_port y x ≡ false) × (same_port x y ≡ false))
+    (flat_map f (range_with_len (a + 1) n)))
     (λ x here. all_pieces (λ y. (same_port y x ≡ false) × (same_port x y ≡ false)) f (a + 1) n
     (λ i k l. All-weaker (λ y. key y ≡ i) (λ y. (same_port y x ≡ false) × (same_port x y ≡ false))
     (λ y there. (tells y x (λ e. omega (arith, e, here, there)), tells x y (λ e. omega (arith, e, here, there)))) (f i)
@@ -129,8 +135,11 @@ module _ (cells : List Cell) where
     where
       by : (b : Bool) → Differ (cond b [] (flat_map (at_port c) (range_with_len 0 (length (cell_at cells c).ports))))
       by true = tt
-      by false = differ_pieces (λ d. d.port.0) other_port (at_port c) 0 (length (cell_at cells c).ports) (λ p. one_differs (port_of c p) (producer_of cells (port_of c p)))
-          (λ p. All-weaker (λ e. e ≡ port_of c p) (λ (e : Dest). e.port.0 ≡ p) (λ e is. ap (λ (x : Dest). x.port.0) is) (at_port c p) (one_named (port_of c p) (producer_of cells (port_of c p))))
+      by false =
+          differ_pieces (λ d. d.port.0) other_port (at_port c) 0 (length (cell_at cells c).ports)
+          (λ p. one_differs (port_of c p) (producer_of cells (port_of c p)))
+          (λ p. All-weaker (λ e. e ≡ port_of c p) (λ (e : Dest). e.port.0 ≡ p) (λ e is. ap (λ (x : Dest). x.port.0) is)
+          (at_port c p) (one_named (port_of c p) (producer_of cells (port_of c p))))
 
   ports_own : (c : ℕ) → All (λ d. d.cell.0 ≡ c) (fed_ports cells c)
   ports_own c = by (is_buf cells c)
@@ -140,7 +149,9 @@ module _ (cells : List Cell) where
           (cond b [] (flat_map (at_port c) (range_with_len 0 (length (cell_at cells c).ports))))
       by true = All-nil (λ (d : Dest). d.cell.0 ≡ c)
       by false = all_pieces (λ d. d.cell.0 ≡ c) (at_port c) 0 (length (cell_at cells c).ports)
-          (λ p k l. All-weaker (λ e. e ≡ port_of c p) (λ (e : Dest). e.cell.0 ≡ c) (λ e is. ap (λ (x : Dest). x.cell.0) is) (at_port c p) (one_named (port_of c p) (producer_of cells (port_of c p))))
+          (λ p k l. All-weaker (λ e. e ≡ port_of c p) (λ (e : Dest). e.cell.0 ≡ c)
+          (λ e is. ap (λ (x : Dest). x.cell.0) is) (at_port c p)
+          (one_named (port_of c p) (producer_of cells (port_of c p))))
 
   arcs_differ : Differ (skeleton_arcs cells)
   arcs_differ = differ_pieces (λ d. d.cell.0) other_cell (fed_ports cells) 0 (length cells) ports_differ ports_own
@@ -220,32 +231,43 @@ module _ (old new : List Cell) (count : Dest → ℕ) (is : IsBuffered old new c
 
   fed_stays : (c : ℕ) → c < length old → fed_ports new c ≡ fed_ports old c
   fed_stays c h =
-      let ports : length (cell_at new c).ports ≡ length (cell_at old c).ports = sym (length-map (cell_at new c).ports (over_buffers new)) ∙ ap (λ (l : List Feed). length l) (is.feeds c h) in
+      let ports : length (cell_at new c).ports ≡ length (cell_at old c).ports =
+      sym (length-map (cell_at new c).ports (over_buffers new)) ∙ ap (λ (l : List Feed). length l) (is.feeds c h) in
       ap (λ b. cond b [] (flat_map (at_port new c) (range_with_len 0 (length (cell_at new c).ports))))
       (plain old new count is c h)
       ∙ ap (λ n. flat_map (at_port new c) (range_with_len 0 n)) ports
       ∙ pieces_first (at_port new c) (at_port old c) 0 (length (cell_at old c).ports) (length (cell_at old c).ports)
       (omega arith) (λ p k l. port_stays (port_of c p) h) (λ p k l. absurd (omega arith))
-      ∙ sym (ap (λ b. cond b [] (flat_map (at_port old c) (range_with_len 0 (length (cell_at old c).ports)))) (is.plain c h))
+      ∙ sym (ap (λ b. cond b [] (flat_map (at_port old c) (range_with_len 0 (length (cell_at old c).ports))))
+      (is.plain c h))
 
   pub arcs_end : skeleton_arcs new ≡ skeleton_arcs old
-  arcs_end = pieces_first (fed_ports new) (fed_ports old) 0 (length old) (length new) is.few (λ c k l. fed_stays c (omega arith))
-      (λ c k l. ap (λ b. cond b [] (flat_map (at_port new c) (range_with_len 0 (length (cell_at new c).ports)))) (buf old new count is c (omega arith) (omega arith)))
+  arcs_end =
+      pieces_first (fed_ports new) (fed_ports old) 0 (length old) (length new) is.few
+      (λ c k l. fed_stays c (omega arith))
+      (λ c k l. ap (λ b. cond b [] (flat_map (at_port new c) (range_with_len 0 (length (cell_at new c).ports))))
+      (buf old new count is c (omega arith) (omega arith)))
 
 -- an arc of the skeleton ends at a port that an arc feeds
 pub each_fed : (cells : List Cell) → All (λ d. (u : CellId) × (producer_of cells d ≡ Some u)) (skeleton_arcs cells)
-each_fed cells = all_pieces (λ d. (u : CellId) × (producer_of cells d ≡ Some u)) (fed_ports cells) 0 (length cells) (λ c k l. by_cell c (is_buf cells c))
+each_fed cells =
+    all_pieces (λ d. (u : CellId) × (producer_of cells d ≡ Some u)) (fed_ports cells) 0 (length cells)
+    (λ c k l. by_cell c (is_buf cells c))
   where
     by_port : (d : Dest) (o : Option CellId) → producer_of cells d ≡ o
         → All (λ d. (u : CellId) × (producer_of cells d ≡ Some u)) (fed_port d o)
     by_port d None fed = All-nil (λ d. (u : CellId) × (producer_of cells d ≡ Some u))
-    by_port d (Some u) fed = All-cons (λ d. (u : CellId) × (producer_of cells d ≡ Some u)) d [] (u, fed) (All-nil (λ d. (u : CellId) × (producer_of cells d ≡ Some u)))
+    by_port d (Some u) fed =
+        All-cons (λ d. (u : CellId) × (producer_of cells d ≡ Some u)) d [] (u, fed)
+        (All-nil (λ d. (u : CellId) × (producer_of cells d ≡ Some u)))
 
     by_cell : (c : ℕ) (b : Bool)
         → All (λ d. (u : CellId) × (producer_of cells d ≡ Some u))
         (cond b [] (flat_map (at_port cells c) (range_with_len 0 (length (cell_at cells c).ports))))
     by_cell c true = All-nil (λ d. (u : CellId) × (producer_of cells d ≡ Some u))
-    by_cell c false = all_pieces (λ d. (u : CellId) × (producer_of cells d ≡ Some u)) (at_port cells c) 0 (length (cell_at cells c).ports) (λ p k l. by_port (port_of c p) (producer_of cells (port_of c p)) refl)
+    by_cell c false =
+        all_pieces (λ d. (u : CellId) × (producer_of cells d ≡ Some u)) (at_port cells c) 0
+        (length (cell_at cells c).ports) (λ p k l. by_port (port_of c p) (producer_of cells (port_of c p)) refl)
 
 pub same_pieces : (P : Dest → Type 0) (f g : Dest → List ℕ) → ((d : Dest) → P d → f d ≡ g d) → (ports : List Dest)
     → All P ports → flat_map f ports ≡ flat_map g ports

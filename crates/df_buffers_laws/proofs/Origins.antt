@@ -71,7 +71,9 @@ module _ (old new : List Cell) (count : Dest → ℕ) (is : IsBuffered old new c
 
   pub buf_feed : (b : ℕ) → length old ≤ b → b < length new
       → (u : CellId) × (producer_of new (port_of b 0) ≡ Some u) × (u.0 < b)
-  buf_feed b h l = let chain = is.chains b h l in (chain.0, ap (λ (ports : List Feed). cell_from (slice_get ports 0)) chain.1, chain.2)
+  buf_feed b h l =
+      let chain = is.chains b h l in
+      (chain.0, ap (λ (ports : List Feed). cell_from (slice_get ports 0)) chain.1, chain.2)
 
   -- what feeds an old port, over BUF cells, is what fed it before
   pub old_feed : (d : Dest) → d.cell.0 < length old → feed_of old d ≡ option_map (over_buffers new) (feed_of new d)

@@ -39,7 +39,8 @@ fed_reaches cells v p u fed = ([], (p, u, fed, refl))
 pub none_past : (cells : List Cell) (c : ℕ) → length cells ≤ c → (p : ℕ) (u : CellId)
     → producer_of cells (port_of c p) ≡ Some u → ⊥
 none_past cells c past p u fed =
-    let none : producer_of cells (port_of c p) ≡ None = ap (λ (cell : Cell). cell_from (slice_get cell.ports p)) (get_or_past cells c no_cell past) in
+    let none : producer_of cells (port_of c p) ≡ None =
+    ap (λ (cell : Cell). cell_from (slice_get cell.ports p)) (get_or_past cells c no_cell past) in
     let e : Some u ≡ None = sym fed ∙ none in cc
 
 target_inside : (cells : List Cell) (u v : ℕ) → HasArc cells u v → v < length cells
@@ -103,7 +104,10 @@ module _ (old new : List Cell) (count : Dest → ℕ) (is : IsBuffered old new c
     rest : (w ≡ origin new y) ⊎ Reaches old w (origin new y)
 
   met_arc : (x y : ℕ) (met : Met x y) → Reaches old (origin new x) met.w
-  met_arc x y met = subst (λ k. Reaches old k met.w) met.origins (fed_reaches old met.w met.p (home new met.v) (was_fed old new count is (port_of met.w met.p) met.v met.inside met.fed))
+  met_arc x y met =
+      subst (λ k. Reaches old k met.w) met.origins
+      (fed_reaches old met.w met.p (home new met.v)
+      (was_fed old new count is (port_of met.w met.p) met.v met.inside met.fed))
 
   met_end : (x y : ℕ) → Met x y → Reaches old (origin new x) (origin new y)
   met_end x y met = elim met.rest [
@@ -117,7 +121,8 @@ module _ (old new : List Cell) (count : Dest → ℕ) (is : IsBuffered old new c
       let first = buf_feed old new count is b behind inside in
       ap (λ (k : CellId). k.0) (same_Some v first.0 (sym fed ∙ first.1))
   only_feed b (suc p) v behind inside fed =
-      let none = ap (λ (ports : List Feed). cell_from (slice_get ports (suc p))) (is.chains b behind inside).1 in absurd (cc)
+      let none = ap (λ (ports : List Feed). cell_from (slice_get ports (suc p))) (is.chains b behind inside).1 in
+      absurd (cc)
 
   step : (x y : ℕ) → HasArc new x y → Onward x y ⊎ Met x y
   step x y (p, v, fed, at) = elim (cases_lt y (length old)) [
@@ -144,7 +149,12 @@ module _ (old new : List Cell) (count : Dest → ℕ) (is : IsBuffered old new c
   ]
 
   after : (x z y : ℕ) → Onward x z ⊎ Met x z → Onward z y ⊎ Met z y → Onward x y ⊎ Met x y
-  after x z y (inl one) (inl two) = inl (record { origins = one.origins ∙ two.origins; behind = two.behind; less = let a = one.less in let b = two.less in omega arith })
+  after x z y (inl one) (inl two) =
+      inl (record {
+        origins = one.origins ∙ two.origins;
+        behind = two.behind;
+        less = let a = one.less in let b = two.less in omega arith;
+      })
   after x z y (inl one) (inr two) = inr (record {
     w = two.w;
     p = two.p;
@@ -180,7 +190,9 @@ module _ (old new : List Cell) (count : Dest → ℕ) (is : IsBuffered old new c
   pub back : (u v : ℕ) → u < length old → v < length old → Reaches new u v → Reaches old u v
   back u v here there (between, path) = elim (along u between v path) [
     | inl on ↦ let behind = on.behind in absurd (omega arith)
-    | inr met ↦ subst (λ k. Reaches old k v) (own old new count is u here) (subst (Reaches old (origin new u)) (own old new count is v there) (met_end u v met))
+    | inr met ↦
+        subst (λ k. Reaches old k v) (own old new count is u here)
+        (subst (Reaches old (origin new u)) (own old new count is v there) (met_end u v met))
   ]
 
   -- ---- loops and marks
@@ -193,7 +205,8 @@ module _ (old new : List Cell) (count : Dest → ℕ) (is : IsBuffered old new c
         let some = marks.marked u (joins old u v u way home) in
         let one = marks.one_mark u v way home in
         or_right (eqb u v) (not (eqb (mark_of old u) 0) && eqb (mark_of old u) (mark_of old v))
-        (and_from (not (eqb (mark_of old u) 0)) (eqb (mark_of old u) (mark_of old v)) (ap not (ne_eqb (mark_of old u) 0 some)) (eq-eqb (mark_of old u) (mark_of old v) one))
+        (and_from (not (eqb (mark_of old u) 0)) (eqb (mark_of old u) (mark_of old v))
+        (ap not (ne_eqb (mark_of old u) 0 some)) (eq-eqb (mark_of old u) (mark_of old v) one))
 
     pub no_loop : (b : ℕ) → length old ≤ b → Reaches new b b → ⊥
     no_loop b behind (steps, path) = elim (along b steps b path) [
@@ -205,7 +218,10 @@ module _ (old new : List Cell) (count : Dest → ℕ) (is : IsBuffered old new c
     ]
 
     loop_inside : (c : ℕ) → Reaches new c c → c < length old
-    loop_inside c loop = elim (cases_lt c (length old)) [ inl here ↦ here | inr behind ↦ absurd (no_loop c behind loop) ]
+    loop_inside c loop = elim (cases_lt c (length old)) [
+      | inl here ↦ here
+      | inr behind ↦ absurd (no_loop c behind loop)
+    ]
 
     marked_inside : (c : ℕ) → mark_of old c ≢ 0 → c < length old
     marked_inside c some = let loop = marks.cyclic c some in end_inside old c loop.0 c loop.1

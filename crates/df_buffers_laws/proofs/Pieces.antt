@@ -21,7 +21,8 @@ filter_first p q a (suc n) (suc t) h same none =
     ap (λ b. cond b (a ∷ filter p (range_with_len (a + 1) t)) (filter p (range_with_len (a + 1) t)))
     (same a (omega arith) (omega arith))
     ∙ ap (λ l. cond (q a) (a ∷ l) l)
-    (filter_first p q (a + 1) n t (omega arith) (λ i k l. same i (omega arith) (omega arith)) (λ i l m. none i (omega arith) (omega arith)))
+    (filter_first p q (a + 1) n t (omega arith) (λ i k l. same i (omega arith) (omega arith))
+    (λ i l m. none i (omega arith) (omega arith)))
 
 pub pieces_first : {A : Type 0} (f g : ℕ → List A) (a n t : ℕ) → n ≤ t → ((i : ℕ) → a ≤ i → i < a + n → f i ≡ g i)
     → ((i : ℕ) → a + n ≤ i → i < a + t → f i ≡ [])
@@ -35,7 +36,8 @@ pieces_first f g a zero (suc t) h same none =
 pieces_first f g a (suc n) (suc t) h same none =
     ap (λ l. l ++ flat_map f (range_with_len (a + 1) t)) (same a (omega arith) (omega arith))
     ∙ ap (λ l. g a ++ l)
-    (pieces_first f g (a + 1) n t (omega arith) (λ i k l. same i (omega arith) (omega arith)) (λ i l m. none i (omega arith) (omega arith)))
+    (pieces_first f g (a + 1) n t (omega arith) (λ i k l. same i (omega arith) (omega arith))
+    (λ i l m. none i (omega arith) (omega arith)))
 
 pub map-pieces : {X A B : Type 0} (h : A → B) (f : X → List A) (xs : List X)
     → flat_map (λ x. map h (f x)) xs ≡ map h (flat_map f xs)

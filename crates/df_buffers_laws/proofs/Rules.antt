@@ -22,7 +22,9 @@ use Rattle.df_buffers_laws.proofs.KindSums.{same_sum}
 not_before : (d : Dest) → is_before d d ≡ true → ⊥
 not_before d h = elim (or_cases (nat_lt d.cell.0 d.cell.0) ((d.cell.0 == d.cell.0) && nat_lt d.port.0 d.port.0) h) [
   | inl cell ↦ let less = ltb-true d.cell.0 d.cell.0 cell in absurd (omega arith)
-  | inr both ↦ let less = ltb-true d.port.0 d.port.0 (and_parts (d.cell.0 == d.cell.0) (nat_lt d.port.0 d.port.0) both).1 in absurd (omega arith)
+  | inr both ↦
+      let less = ltb-true d.port.0 d.port.0 (and_parts (d.cell.0 == d.cell.0) (nat_lt d.port.0 d.port.0) both).1 in
+      absurd (omega arith)
 ]
 
 -- a rising list of one port has one element
@@ -35,7 +37,8 @@ one_port d (e ∷ f ∷ dests) rising all has =
     let second = All-head (λ (x : Dest). x ≡ d) f dests (All-tail (λ (x : Dest). x ≡ d) e (f ∷ dests) all) in
     absurd (not_before d (ap (λ (x : Dest). is_before x d) (sym first) ∙ ap (is_before e) (sym second) ∙ rising.0))
 
-module _ (old new : List Cell) (count : Dest → ℕ) (is : IsBuffered old new count) (well_formed : WellFormed old) (shaped : AreCells new)
+module _ (old new : List Cell) (count : Dest → ℕ) (is : IsBuffered old new count) (well_formed : WellFormed old)
+    (shaped : AreCells new)
     (names : (c : ℕ) → c < length new → NamesWithin new c) (lists : (c : ℕ) → c < length new → ListsItsArcs new c)
     (right : HasMarks new)
     (marks : (c : ℕ) → mark_of new c ≡ mark_of old c) (between : StandBetweenNodes old new) where
@@ -47,7 +50,8 @@ module _ (old new : List Cell) (count : Dest → ℕ) (is : IsBuffered old new c
         record {
           short = λ n e. rule.short n (ap limit same ∙ e);
           ordinary = λ lo n j e. rule.ordinary lo n j (same ∙ e);
-          own_name = λ b m n name other basic of less first second. rule.own_name b m n name other basic of less (sym (is.kinds b (omega arith)) ∙ first) (same ∙ second);
+          own_name = λ b m n name other basic of less first second.
+              rule.own_name b m n name other basic of less (sym (is.kinds b (omega arith)) ∙ first) (same ∙ second);
         }
     | inr behind ↦
         let kind' = is.others c behind h in
@@ -64,8 +68,12 @@ module _ (old new : List Cell) (count : Dest → ℕ) (is : IsBuffered old new c
         let rule = well_formed.control c here in
         let same = sym (is.kinds c here) in
         record {
-          some = λ none. let fed = rule.some (ap source_length same ∙ none) in let now = is_fed old new count is (port_of c fed.0) fed.1 here fed.2 in (fed.0, now.0, now.1);
-          control = λ held. let fed = rule.control (ap (λ k. is_controlled (family k)) same ∙ held) in let now = is_fed old new count is (port_of c 0) fed.0 here fed.1 in (now.0, now.1);
+          some = λ none.
+              let fed = rule.some (ap source_length same ∙ none) in
+              let now = is_fed old new count is (port_of c fed.0) fed.1 here fed.2 in (fed.0, now.0, now.1);
+          control = λ held.
+              let fed = rule.control (ap (λ k. is_controlled (family k)) same ∙ held) in
+              let now = is_fed old new count is (port_of c 0) fed.0 here fed.1 in (now.0, now.1);
         }
     | inr behind ↦
         let feed = buf_feed old new count is c behind h in
@@ -85,7 +93,10 @@ module _ (old new : List Cell) (count : Dest → ℕ) (is : IsBuffered old new c
   still_nothing : (c : ℕ) → c < length old → (cell_at old c).dests ≡ [] → (d : Dest)
       → producer_of new d ≡ Some (record { 0 = c }) → ⊥
   still_nothing c here none d fed = elim (cases_lt d.cell.0 (length old)) [
-    | inl inner ↦ feeds_nothing c here none d (was_fed old new count is d (record { 0 = c }) inner fed ∙ ap (λ k. Some (record { 0 = k })) (own old new count is c here))
+    | inl inner ↦
+        feeds_nothing c here none d
+        (was_fed old new count is d (record { 0 = c }) inner fed
+        ∙ ap (λ k. Some (record { 0 = k })) (own old new count is c here))
     | inr behind ↦
         let h = fed_inside new d (record { 0 = c }) fed in
         let feed = buf_feed old new count is d.cell.0 behind h in
@@ -105,7 +116,9 @@ module _ (old new : List Cell) (count : Dest → ℕ) (is : IsBuffered old new c
       by (d ∷ dests) e =
           let few = is.few in
           let fed = (lists c (omega arith)).fed in
-          absurd (still_nothing c here none d (All-head (λ x. producer_of new x ≡ Some (record { 0 = c })) d dests (subst (All (λ x. producer_of new x ≡ Some (record { 0 = c }))) e fed)))
+          absurd (still_nothing c here none d
+          (All-head (λ x. producer_of new x ≡ Some (record { 0 = c })) d dests
+          (subst (All (λ x. producer_of new x ≡ Some (record { 0 = c }))) e fed)))
 
   counts : (c : ℕ) → c < length new → CountsResults new c
   counts c h = elim (cases_lt c (length old)) [
@@ -116,9 +129,13 @@ module _ (old new : List Cell) (count : Dest → ℕ) (is : IsBuffered old new c
         record {
           numbered =
               λ k n e. rule.numbered k n (same ∙ e)
-              ∙ ap (λ m. m + 1) (sym (same_sum (λ k. cond (is_output k) 1 0) new old c (omega arith) (omega arith) (λ i l. is.kinds i (omega arith))));
+              ∙ ap (λ m. m + 1) (sym (same_sum (λ k. cond (is_output k) 1 0) new old c (omega arith) (omega arith)
+              (λ i l. is.kinds i (omega arith))));
           last = λ k n e. no_dests c here (rule.last k n (same ∙ e));
-          few = λ n e. subst (λ m. m ≤ 16777216) (sym (same_sum (λ k. number_or_none (outer_length k)) new old (c + 1) (omega arith) (omega arith) (λ i l. is.kinds i (omega arith))))
+          few = λ n e.
+              subst (λ m. m ≤ 16777216)
+              (sym (same_sum (λ k. number_or_none (outer_length k)) new old (c + 1) (omega arith) (omega arith)
+              (λ i l. is.kinds i (omega arith))))
               (rule.few n (ap outer_length same ∙ e));
         }
     | inr behind ↦
@@ -142,7 +159,9 @@ module _ (old new : List Cell) (count : Dest → ℕ) (is : IsBuffered old new c
         record {
           from = feed.0;
           fed = feed.1;
-          one_dest = one_port ends.port dests rule.rising (λ k d l. ends.alone (get_or dests k d) (rule.fed k d l)) (rule.listed ends.port ends.fed);
+          one_dest =
+              one_port ends.port dests rule.rising (λ k d l. ends.alone (get_or dests k d) (rule.fed k d l))
+              (rule.listed ends.port ends.fed);
           unmarked = marks b ∙ ap (λ (cell : Cell). cell.mark) (get_or_past old b no_cell behind);
           begins = plain old new count is (origin new b) landed;
         }
@@ -162,7 +181,9 @@ module _ (old new : List Cell) (count : Dest → ℕ) (is : IsBuffered old new c
               λ none. rule.1 (sym (marks c) ∙ none),
             )
             | inr behind ↦
-                let e : true ≡ false = sym (one_loop old (origin new u.0) c rule.0 rule.1) ∙ between d u here fed behind in absurd (cc)
+                let e : true ≡ false =
+                sym (one_loop old (origin new u.0) c rule.0 rule.1) ∙ between d u here fed behind in
+                absurd (cc)
           ];
     }
     | inr behind ↦ record {

@@ -1,5 +1,5 @@
 -- Cells with BUF cells on their arcs have the same skeleton but for these.
-use Rattle.std.proofs.Common.{◌≡◌, ℕ, ◌<◌, ◌≤◌, ◌==◌, ◌&&◌, ◌||◌, not, pos, ◌+ℤ◌, ◌-ℤ◌, ◌*ℤ◌, Bool, true, false, cond, List, [], ◌∷◌, map, length, Option, Some, None, refl, sym, ap, ◌∙◌, arith, eq-eqb}
+use Rattle.std.proofs.Common.{◌≡◌, ℕ, ◌<◌, ◌≤◌, ◌==◌, ◌&&◌, ◌||◌, not, pos, ◌+ℤ◌, ◌-ℤ◌, ◌*ℤ◌, ℤ, Bool, true, false, cond, List, [], ◌∷◌, map, length, Option, Some, None, refl, sym, ap, ◌∙◌, arith, eq-eqb}
 use Rattle.std.specs.Option.{option_map}
 use Rattle.std.specs.List.{flat_map, range_with_len}
 use Rattle.std.proofs.lemmas.List.{length-map}
@@ -18,7 +18,8 @@ use Rattle.df_buffers_laws.specs.Filled.{filled}
 use Rattle.df_buffers_laws.proofs.Origins.{home, origin_stays, plain, buf, producers, lands_there, gates_stay, merges_stay}
 use Rattle.df_buffers_laws.proofs.Pieces.{filter_first, pieces_first, map-pieces, first_same}
 
-module _ (old new : List Cell) (count : Dest → ℕ) (is : IsBuffered old new count) (marks : (c : ℕ) → mark_of new c ≡ mark_of old c)
+module _ (old new : List Cell) (count : Dest → ℕ) (is : IsBuffered old new count)
+    (marks : (c : ℕ) → mark_of new c ≡ mark_of old c)
     (least : (c : ℕ) → c < length old → node_of old c < length old) where
   -- ---- nodes
 
@@ -31,7 +32,8 @@ module _ (old new : List Cell) (count : Dest → ℕ) (is : IsBuffered old new c
   node_stays c h =
       ap (λ m. cond (m == 0) c (first_from (λ (cell : Cell). cell.mark == m) 0 new)) (marks c)
       ∙ ap (λ k. cond (mark_of old c == 0) c k)
-      (first_same (λ (cell : Cell). cell.mark == mark_of old c) 0 old new no_cell is.few (λ i l. ap (λ m. m == mark_of old c) (marks i)) c h (eq-eqb (mark_of old c) (mark_of old c) refl))
+      (first_same (λ (cell : Cell). cell.mark == mark_of old c) 0 old new no_cell is.few
+      (λ i l. ap (λ m. m == mark_of old c) (marks i)) c h (eq-eqb (mark_of old c) (mark_of old c) refl))
 
   is_node_stays : (c : ℕ) → c < length old → is_node new c ≡ is_node old c
   is_node_stays c h =
@@ -42,11 +44,14 @@ module _ (old new : List Cell) (count : Dest → ℕ) (is : IsBuffered old new c
   no_node c behind h = ap (λ b. not b && (node_of new c == c)) (buf old new count is c behind h)
 
   pub nodes_stay : nodes new ≡ nodes old
-  nodes_stay = filter_first (is_node new) (is_node old) 0 (length old) (length new) is.few (λ i k l. is_node_stays i (omega arith)) (λ i k l. no_node i (omega arith) (omega arith))
+  nodes_stay =
+      filter_first (is_node new) (is_node old) 0 (length old) (length new) is.few
+      (λ i k l. is_node_stays i (omega arith)) (λ i k l. no_node i (omega arith) (omega arith))
 
   below_stays : (n : ℕ) → n ≤ length old → count_below new n ≡ count_below old n
   below_stays n h = ap (λ (l : List ℕ). length l)
-      (filter_first (is_node new) (is_node old) 0 n n (omega arith) (λ i k l. is_node_stays i (omega arith)) (λ i k l. absurd (omega arith)))
+      (filter_first (is_node new) (is_node old) 0 n n (omega arith) (λ i k l. is_node_stays i (omega arith))
+      (λ i k l. absurd (omega arith)))
 
   pub place_stays : (c : ℕ) → c < length old → node_place new c ≡ node_place old c
   place_stays c h =
@@ -55,17 +60,25 @@ module _ (old new : List Cell) (count : Dest → ℕ) (is : IsBuffered old new c
   -- ---- arcs
 
   abbrev arc_with : List Cell → ℕ → Dest → ℕ → SkeletonArc
-  arc_with cells u d n = record { name = d; from = node_place cells u; to = node_place cells d.cell.0; weight = weight cells u d; buffers = n }
+  arc_with cells u d n = record {
+    name = d;
+    from = node_place cells u;
+    to = node_place cells d.cell.0;
+    weight = weight cells u d;
+    buffers = n;
+  }
 
   same_arc : (u : ℕ) (d : Dest) (n : ℕ) → u < length old → d.cell.0 < length old
       → arc_with new u d n ≡ arc_with old u d n
   same_arc u d n h k =
+      let weighing = λ (w : ℤ). let arc : SkeletonArc =
+      record { name = d; from = node_place old u; to = node_place old d.cell.0; weight = w; buffers = n } in arc in
       ap (λ i. record { name = d; from = i; to = node_place new d.cell.0; weight = weight new u d; buffers = n })
       (place_stays u h)
       ∙ ap (λ i. record { name = d; from = node_place old u; to = i; weight = weight new u d; buffers = n })
       (place_stays d.cell.0 k)
-      ∙ ap (λ g. record { name = d; from = node_place old u; to = node_place old d.cell.0; weight = pos 1 +ℤ pos 2 *ℤ (pos g -ℤ pos (merge_part new d)); buffers = n }) (gates_stay old new count is u h)
-      ∙ ap (λ m. record { name = d; from = node_place old u; to = node_place old d.cell.0; weight = pos 1 +ℤ pos 2 *ℤ (pos (gate_part old u) -ℤ pos m); buffers = n }) (merges_stay old new count is d k)
+      ∙ ap (λ g. weighing (pos 1 +ℤ pos 2 *ℤ (pos g -ℤ pos (merge_part new d)))) (gates_stay old new count is u h)
+      ∙ ap (λ m. weighing (pos 1 +ℤ pos 2 *ℤ (pos (gate_part old u) -ℤ pos m))) (merges_stay old new count is d k)
 
   filled_between : (b : Bool) (arc : SkeletonArc)
       → cond b [] (filled count arc ∷ []) ≡ map (filled count) (cond b [] (arc ∷ []))
@@ -96,7 +109,8 @@ module _ (old new : List Cell) (count : Dest → ℕ) (is : IsBuffered old new c
 
   cell_stays : (c : ℕ) → c < length old → arcs_into new c ≡ map (filled count) (arcs_into old c)
   cell_stays c h =
-      let ports : length (cell_at new c).ports ≡ length (cell_at old c).ports = sym (length-map (cell_at new c).ports (over_buffers new)) ∙ ap (λ (l : List Feed). length l) (is.feeds c h) in
+      let ports : length (cell_at new c).ports ≡ length (cell_at old c).ports =
+      sym (length-map (cell_at new c).ports (over_buffers new)) ∙ ap (λ (l : List Feed). length l) (is.feeds c h) in
       let at_old = λ (p : ℕ). arc_from old (port_of c p) (producer_of old (port_of c p)) in
       ap (λ b. cond b [] (arcs_at_ports new c)) (plain old new count is c h)
       ∙ ap (λ n. flat_map (λ p. arc_from new (port_of c p) (producer_of new (port_of c p))) (range_with_len 0 n)) ports

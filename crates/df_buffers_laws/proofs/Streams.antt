@@ -77,7 +77,9 @@ all_back P Q f weaker (x ∷ xs) all = (weaker x all.0, all_back P Q f weaker xs
 pub rising_back : (g : ℕ) (ts : List Turn) → AreRising (map (later g) ts) → AreRising ts
 rising_back g [] rising = tt
 rising_back g (t ∷ ts) rising =
-    (all_back (λ u. IsTrue (is_earlier (later g t) u)) (λ u. IsTrue (is_earlier t u)) (later g) (λ u h. sym (earlier_later g t u) ∙ h) ts rising.0, rising_back g ts rising.1)
+    let first = all_back (λ u. IsTrue (is_earlier (later g t) u)) (λ u. IsTrue (is_earlier t u)) (later g)
+    (λ u h. sym (earlier_later g t u) ∙ h) ts rising.0 in
+    (first, rising_back g ts rising.1)
 
 same_length : (g : ℕ) (t : Turn) → length (later g t) ≡ length t
 same_length g [] = refl

@@ -88,7 +88,9 @@ module _ (old : List Cell) (arcs : ArcsWithin old) (all : List Dest) where
       (lt-ltb c (length old) h)
 
   pub own_home : (c : ℕ) → c < length old → home c ≡ c
-  own_home c h = ap (λ b. cond b c (cell_or 0 (producer_of old (get_or all (c - length old) (port_of 0 0))))) (lt-ltb c (length old) h)
+  own_home c h =
+      ap (λ b. cond b c (cell_or 0 (producer_of old (get_or all (c - length old) (port_of 0 0)))))
+      (lt-ltb c (length old) h)
 
   pub own_depth : (c : ℕ) → c < length old → depth c ≡ 0
   own_depth c h =
@@ -164,7 +166,9 @@ module _ (old : List Cell) (arcs : ArcsWithin old) (all : List Dest) where
           ∙ same_feeds home (λ k. k) (cell_at old c).ports (λ p u fed. own_home u.0 (arcs c p u fed))
           ∙ own_feeds (cell_at old c).ports;
       fed = λ d u h fed.
-          let inside = arcs d.cell.0 d.port.0 u (ap (λ (n : Node). cell_from (slice_get n.ports d.port.0)) (sym (node_is old d.cell.0)) ∙ fed) in
+          let inside =
+          arcs d.cell.0 d.port.0 u
+          (ap (λ (n : Node). cell_from (slice_get n.ports d.port.0)) (sym (node_is old d.cell.0)) ∙ fed) in
           (own_depth u.0 inside, omega arith, own_chain u.0 inside);
       others = λ b behind h. absurd (omega arith);
     };

@@ -47,6 +47,7 @@ use Rattle.df_buffers_laws.proofs.Arcs.{within_old, all_fed, IsApart, all_apart}
 use Rattle.df_buffers_laws.proofs.Counts.{filled_by}
 use Rattle.df_buffers_laws.proofs.KindSums.{whole_sum, same_given}
 use Rattle.df_buffers_laws.proofs.NodeCounts.{counted_nodes}
+use Rattle.df_buffers_laws.proofs.Realized.{still_realize}
 use Rattle.df_buffers_laws.proofs.Balance.{balanced, counted, certified}
 use Rattle.df_buffers_laws.proofs.Rules.{keeps_rules}
 
@@ -101,7 +102,12 @@ buffers_stand old new numbers well_formed plain graph =
     is_buffered old plain (within_old old well_formed plain) (ports_to_buffer (arcs old) numbers) new graph
     (all_fed old well_formed plain numbers)
 
-module _ (unique : MarksAreUnique) (skeletons : HasSkeletons) (certifies : CertifiesLeast) (old new : List Cell) (stages : List ℤ)
+more_than : (old new : List Cell) (ports : List Dest) → length new ≡ length old + length ports
+    → length ports ≡ length new - length (graph_of old)
+more_than old new ports long = let n = length-map old node_of in omega arith
+
+module _ (unique : MarksAreUnique) (skeletons : HasSkeletons) (certifies : CertifiesLeast) (old new : List Cell)
+    (stages : List ℤ)
     (flow : List ℕ) (well_formed : WellFormed old) (plain : HasNoBuffers old)
     (balance : IsBalance (skeleton_of old) stages flow)
     (made : AreMade old new (numbered stages)) where
@@ -140,7 +146,9 @@ module _ (unique : MarksAreUnique) (skeletons : HasSkeletons) (certifies : Certi
   -- ---- the skeleton
 
   long : length new ≡ length old + length ports
-  long = new_length old plain (within_old old well_formed plain) ports new made.graph (all_fed old well_formed plain (numbered stages))
+  long =
+      new_length old plain (within_old old well_formed plain) ports new made.graph
+      (all_fed old well_formed plain (numbered stages))
 
   same_node_over : (k : ℕ) → k < length old → node_over new (cell_at new k) ≡ node_of (cell_at old k)
   same_node_over k h =
@@ -178,7 +186,7 @@ module _ (unique : MarksAreUnique) (skeletons : HasSkeletons) (certifies : Certi
         (λ d. places (length old) d ports) on_arc
         (skeleton_arcs old) (each_fed old)
         ∙ places_in_order old (numbered stages) (length old)
-        ∙ (let count : length ports ≡ length new - length (graph_of old) = omega (arith, long) in ap (range_with_len (length old)) count)
+        ∙ ap (range_with_len (length old)) (more_than old new ports long)
         ∙ ap (λ k. range_with_len k (length new - length (graph_of old))) (sym n);
   }
 
@@ -188,7 +196,8 @@ module _ (unique : MarksAreUnique) (skeletons : HasSkeletons) (certifies : Certi
   inputs_stay = same_given declared_by old new is.few is.kinds (λ b behind h. ap declared_by (is.others b behind h))
 
   outputs_stay : outputs new ≡ outputs old
-  outputs_stay = whole_sum (λ k. cond (is_output k) 1 0) old new is.few is.kinds
+  outputs_stay = whole_sum (λ cell. cond (is_output cell.kind) 1 0) old new is.few
+      (λ c h. ap (λ k. cond (is_output k) 1 0) (is.kinds c h))
       (λ b behind h. ap (λ k. cond (is_output k) 1 0) (is.others b behind h))
 
   results_stay : (labels : Labels) (c k n : ℕ) → (cell_at new c).kind ≡ kind.Out k n
@@ -259,4 +268,8 @@ module _ (unique : MarksAreUnique) (skeletons : HasSkeletons) (certifies : Certi
     labelled =
         λ inputs labels meet. carried_meet old new count is inputs labels meet (within_old old well_formed plain);
     results_stay = results_stay;
+    realized = λ meaning realizes.
+        still_realize old new marks is.few inputs_stay outputs_stay loops_stay results_stay
+        (λ inputs labels meet. carried_meet old new count is inputs labels meet
+        (within_old old well_formed plain)) meaning realizes;
   }

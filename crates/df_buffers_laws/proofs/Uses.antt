@@ -51,7 +51,8 @@ module _ (old : List Cell) (home depth : ℕ → ℕ) (chain : ℕ → List ℕ)
     ]
   ]
 
-module _ (old : List Cell) (home depth : ℕ → ℕ) (chain : ℕ → List ℕ) (done : List Dest) (graph : Graph) (placed : Placed old home depth chain done graph)
+module _ (old : List Cell) (home depth : ℕ → ℕ) (chain : ℕ → List ℕ) (done : List Dest) (graph : Graph)
+    (placed : Placed old home depth chain done graph)
     (d : Dest) (from : CellId) (fed : feeds graph d ≡ Some (Arc from)) (inside : d.cell.0 < length old) where
   within : d.cell.0 < length graph
   within = let count = placed.count in omega arith
@@ -67,7 +68,8 @@ module _ (old : List Cell) (home depth : ℕ → ℕ) (chain : ℕ → List ℕ)
   at_port : cell_from (feeds (insert graph d) d) ≡ Some (record { 0 = length graph })
   at_port =
       ap (λ (n : Node). cell_from (slice_get n.ports d.port.0)) (insert_same graph d within)
-      ∙ ap cell_from (slice_get-set_same node.ports d.port.0 (arc (length graph)) (slice_get_within node.ports d.port.0 (Arc from) fed))
+      ∙ ap cell_from (slice_get-set_same node.ports d.port.0 (arc (length graph))
+      (slice_get_within node.ports d.port.0 (Arc from) fed))
 
   past_insert : (c : ℕ) → length graph < c → node_at (insert graph d) c ≡ no_node
   past_insert c past = get_or_past (insert graph d) c no_node (let long = insert_length graph d within in omega arith)
@@ -101,9 +103,11 @@ module _ (old : List Cell) (home depth : ℕ → ℕ) (chain : ℕ → List ℕ)
         let differ = λ (is : e ≡ d). other (ap (λ (x : Dest). x.cell.0) is) in
         elim (cases_order e.cell.0 (length graph)) [
           | inl last ↦ subst Looks (sym (dest_is e (length graph) e.port.0 last refl)) (looks_last e.port.0)
-          | inr (inl low) ↦ inr (inr (differ, ap (λ (n : Node). slice_get n.ports e.port.0) (insert_other graph d within e.cell.0 low other)))
+          | inr (inl low) ↦
+              inr (inr (differ, ap (λ (n : Node). slice_get n.ports e.port.0) (insert_other graph d within e.cell.0 low other)))
           | inr (inr past) ↦
-              inr (inr (differ, ap (λ (n : Node). slice_get n.ports e.port.0) (past_insert e.cell.0 past) ∙ sym (past_none old home depth chain done graph placed e (omega arith))))
+              let none = past_none old home depth chain done graph placed e (omega arith) in
+              inr (inr (differ, ap (λ (n : Node). slice_get n.ports e.port.0) (past_insert e.cell.0 past) ∙ sym none))
         ]
   ]
 
@@ -116,7 +120,11 @@ module _ (old : List Cell) (home depth : ℕ → ℕ) (chain : ℕ → List ℕ)
       | inr (inl (at, is)) ↦
           let number = same_number from.0 (length graph) (ap cell_from (sym is) ∙ here) in
           let low = all_within old home depth chain done graph placed d from (ap cell_from fed) in absurd (omega arith)
-      | inr (inr (other, is)) ↦ let low = all_within old home depth chain done graph placed e (record { 0 = length graph }) (ap cell_from (sym is) ∙ here) in absurd (omega arith)
+      | inr (inr (other, is)) ↦
+          let low =
+          all_within old home depth chain done graph placed e (record { 0 = length graph })
+          (ap cell_from (sym is) ∙ here) in
+          absurd (omega arith)
     ];
   }
 
@@ -124,7 +132,8 @@ module _ (old : List Cell) (home depth : ℕ → ℕ) (chain : ℕ → List ℕ)
   not_older : (b : ℕ) → b < length graph → (e : Dest) → e ≡ d
       → cell_from (feeds (insert graph d) e) ≡ Some (record { 0 = b }) → ⊥
   not_older b low e is here =
-      let number = same_number (length graph) b (sym at_port ∙ ap (λ x. cell_from (feeds (insert graph d) x)) (sym is) ∙ here) in
+      let number =
+      same_number (length graph) b (sym at_port ∙ ap (λ x. cell_from (feeds (insert graph d) x)) (sym is) ∙ here) in
       omega arith
 
   still_used : (b : ℕ) → b < length graph → Ends graph b → Ends (insert graph d) b
@@ -137,16 +146,20 @@ module _ (old : List Cell) (home depth : ℕ → ℕ) (chain : ℕ → List ℕ)
           alone = λ e here. elim (looks e) [
             | inl is ↦ absurd (not_older b low e is here)
             | inr (inl (at, is)) ↦ at
-            | inr (inr (other, is)) ↦ absurd (other (ends.alone e (ap cell_from (sym is) ∙ here) ∙ sym (ends.alone d (ap cell_from fed ∙ comes))))
+            | inr (inr (other, is)) ↦
+                absurd (other (ends.alone e (ap cell_from (sym is) ∙ here) ∙ sym (ends.alone d (ap cell_from fed ∙ comes))))
           ];
         }
     | inr differ ↦ record {
       port = ends.port;
       fed = elim (looks ends.port) [
-        | inl is ↦ absurd (differ (same_number b from.0 (sym ends.fed ∙ ap (λ x. cell_from (feeds graph x)) is ∙ ap cell_from fed)))
+        | inl is ↦
+            absurd (differ (same_number b from.0
+            (sym ends.fed ∙ ap (λ x. cell_from (feeds graph x)) is ∙ ap cell_from fed)))
         | inr (inl (at, is)) ↦
             let none : None ≡ Some (record { 0 = b }) =
-            ap cell_from (sym (ap (feeds graph) at ∙ past_none old home depth chain done graph placed (port_of (length graph) 0) (omega arith)))
+            ap cell_from (sym (ap (feeds graph) at
+            ∙ past_none old home depth chain done graph placed (port_of (length graph) 0) (omega arith)))
             ∙ ends.fed in absurd (cc)
         | inr (inr (other, is)) ↦ ap cell_from is ∙ ends.fed
       ];

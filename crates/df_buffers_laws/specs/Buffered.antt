@@ -25,7 +25,7 @@ pub record FeedsOne (cells : List Cell) (b : ℕ) : Type 0 where
   pub fed : producer_of cells port ≡ Some (record { 0 = b })
   pub alone : (e : Dest) → producer_of cells e ≡ Some (record { 0 = b }) → e ≡ port
 
--- `new` are the cells `old`, which have no BUF cells, and behind them BUF cells on their arcs: `count` on the arc to a port.
+-- `new` are the cells `old`, which have no BUF cells, and behind them BUF cells on their arcs: `count` of each port.
 pub record IsBuffered (old new : List Cell) (count : Dest → ℕ) : Type 0 where
   pub few : length old ≤ length new
   pub plain : HasNoBuffers old

@@ -26,9 +26,10 @@ buffers_on cells d = met_from cells (producer_of cells d)
 abbrev pub node_over : List Cell → Cell → Node
 node_over cells cell = record { kind = cell.kind; ports = map (over_buffers cells) cell.ports }
 
--- The first cells are those of the graph, over BUF cells, and all others are BUF cells. Along an arc their numbers rise,
--- and over all arcs they follow the order of cell and port.
+-- The first cells are those of the graph, over BUF cells, and all others are BUF cells. Along an arc their numbers
+-- rise, and over all arcs they follow the order of cell and port.
 pub record HasSkeleton (cells : List Cell) (graph : Graph) : Type 0 where
   pub plain : (c : ℕ) → c < length graph → is_buf cells c ≡ false
   pub first : map (node_over cells) (take (length graph) cells) ≡ graph
-  pub order : flat_map (buffers_on cells) (skeleton_arcs cells) ≡ range_with_len (length graph) (length cells - length graph)
+  pub order : flat_map (buffers_on cells) (skeleton_arcs cells)
+      ≡ range_with_len (length graph) (length cells - length graph)

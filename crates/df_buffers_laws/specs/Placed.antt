@@ -15,6 +15,7 @@ use Rattle.df_stages.specs.Balance.{IsBalanced, IsLeast, IsCertificate}
 use Rattle.df_cancel.specs.Balances.{numbered, IsTight}
 use Rattle.df_labels.specs.Graphs.{graph_of}
 use Rattle.df_labels.specs.Labels.{Labels, LabelsMeet}
+use Rattle.df_labels.specs.Realizes.{Meaning, Realizes}
 use Rattle.df_buffers_laws.specs.Insertions.{ports_to_buffer, buffered}
 use Rattle.df_buffers_laws.specs.Buffered.{IsBuffered}
 use Rattle.df_buffers_laws.specs.HasSkeleton.{HasSkeleton}
@@ -58,3 +59,4 @@ pub record ArePlaced (old new : List Cell) (stages : List ℤ) (flow : List ℕ)
       → LabelsMeet new inputs (carried old new labels)
   pub results_stay : (labels : Labels) (c k n : ℕ) → (cell_at new c).kind ≡ kind.Out k n
       → ((cell_at old c).kind ≡ kind.Out k n) × (carried old new labels c ≡ labels c)
+  pub realized : (meaning : Meaning) → Realizes old meaning → Realizes new meaning

@@ -22,8 +22,9 @@ returns c =
     let graph = made_graph old c.in_ok-new.new numbers c.of-builder.result c.insert_all.new.builder c.args.ports.now
     c.in_ok-new.ensures.graph c.in_ok-insert_all.ensures c.of-builder.ensures c.requires.ports in
     let is = c.stand_on_arcs.ensures old c.in_ok-new.new numbers c.requires.well_formed c.requires.plain graph in
-    let staged : StagedSoFar c.in_ok-new.new c.push_buffer_stages.new.table.items (length c.in_ok-new.new) c.set_stages.new.cells =
-    subst (λ (l : List ℕ). StagedSoFar c.in_ok-new.new l (length c.in_ok-new.new) c.set_stages.new.cells) c.as_slice.ensures.value
+    let made = c.in_ok-new.new in
+    let staged : StagedSoFar made c.push_buffer_stages.new.table.items (length made) c.set_stages.new.cells =
+    subst (λ (l : List ℕ). StagedSoFar made l (length made) c.set_stages.new.cells) c.as_slice.ensures.value
     c.set_stages.ensures.staged in
     are_made old c.in_ok-new.new (counts_of old numbers) is c.set_stages.new.cells numbers c.in_ok-table.table.items
     c.push_buffer_stages.new.table.items c.in_ok-table.ensures c.in_ok-push_buffer_stages.ensures staged graph

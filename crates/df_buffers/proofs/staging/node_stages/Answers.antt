@@ -21,7 +21,8 @@ bounds-stages-next c =
     let cells = c.args.cells.now in
     let i = c.loop-c.c in
     let inside : i < length cells = omega arith in
-    let least = least_is c.args.s.now cells i c.least_cell-least.result c.requires.skeleton inside c.least_cell-least.ensures in
+    let least =
+    least_is c.args.s.now cells i c.least_cell-least.result c.requires.skeleton inside c.least_cell-least.ensures in
     let node = node_here cells i (c.requires.plain i inside) (sym least ∙ c.if-least-c.true) in
     let room = (c.counts_nodes.ensures cells).room i inside node in
     let next = c.loop-c.invariant.next_is in
@@ -41,7 +42,8 @@ index-stage-requires c =
     let i = c.loop-c.c in
     let inside : i < length cells = omega arith in
     let low = (c.counts_nodes.ensures cells).least i inside in
-    let least = least_is c.args.s.now cells i c.least_cell-least.result c.requires.skeleton inside c.least_cell-least.ensures in
+    let least =
+    least_is c.args.s.now cells i c.least_cell-least.result c.requires.skeleton inside c.least_cell-least.ensures in
     let count = c.loop-c.invariant.stages_are.count in
     let other = c.if-least-c.false in
     let less : node_of cells i < i = omega (arith, other) in
@@ -57,7 +59,8 @@ loop-c-preserved c =
     let counted = c.counts_nodes.ensures cells in
     let inside : i < length cells = omega arith in
     let plain = c.requires.plain i inside in
-    let least = least_is c.args.s.now cells i c.least_cell-least.result c.requires.skeleton inside c.least_cell-least.ensures in
+    let least =
+    least_is c.args.s.now cells i c.least_cell-least.result c.requires.skeleton inside c.least_cell-least.ensures in
     let each = c.requires.each in
     let next = c.loop-c.invariant.next_is in
     let low_node = counted.least i inside in
