@@ -1,4 +1,3 @@
 pub mod Blocks
 pub mod Program
 pub mod Laying
-pub mod Refusals

@@ -4,5 +4,4 @@
 #![tactic(auto)]
 
 pub mod blocks;
-pub mod build;
 pub mod program;
