@@ -1,14 +1,15 @@
 -- The cells of a flat program: its skeleton, and how many cells that has.
-use Rattle.std.specs.Prelude.{ℕ, ◌+◌, List, [], ◌∷◌, ◌++◌, length, fold, slice_get, Option, Some, None}
+use Rattle.std.specs.Prelude.{ℕ, ◌+◌, List, [], ◌∷◌, ◌++◌, length, map, fold, slice_get, Option, Some, None}
 use Rattle.df_values.specs.Inputs.{input_length}
 use Rattle.df_values.specs.declared.inputs.Extent.{Extent}
 use Rattle.df_values.specs.declared.inputs.Input.{Input}
+use Rattle.df_cells.specs.declared.cells.InputDecl.{InputDecl}
 use Rattle.df_cells.specs.declared.kinds.Kind.TheVariants as kind
 use Rattle.df_labels.specs.Graphs.{Graph, Node}
 use Rattle.df_labels.specs.declared.graphs.Flow.TheVariants.{Cell}
 use Rattle.df_core.specs.declared.flat.Block.{Block}
 use Rattle.df_core.specs.declared.flat.Flat.{Flat}
-use Rattle.df_build_cond.specs.Growth.{with_cell, pushed}
+use Rattle.df_build_cond.specs.Growth.{whole, with_cell, pushed}
 use Rattle.df_build_terms.specs.declared.building.Outside.{Outside}
 use Rattle.df_build_terms.specs.declared.building.Outside.TheVariants.{Single, Many}
 use Rattle.df_build_elem.specs.Blocks.{placed, shown, listed}
@@ -63,9 +64,16 @@ module _ (keep : Node → Node) where
       let l = laid flat graph in
       (fold (result_more l.outer) (record { graph = l.graph; count = 0 }) flat.results).graph
 
+-- what the inputs of a flat program declare
+abbrev pub declared_input : Input → InputDecl
+declared_input i = record { name = i.name; basic = i.basic; length = input_length i.extent }
+
+abbrev pub declared_inputs : Flat → List InputDecl
+declared_inputs flat = map declared_input flat.parameters
+
 -- the skeleton of a flat program
 abbrev pub program_graph : Flat → Graph
-program_graph flat = program_on (λ node. node) flat []
+program_graph flat = program_on whole flat []
 
 -- how many cells it has
 abbrev pub census : Flat → ℕ

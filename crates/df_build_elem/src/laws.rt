@@ -1,0 +1,51 @@
+//! What follows from the definitions alone: each call does nothing, and its contract is a law.
+ghost use Rattle.df_build_elem.specs.Finished.{SkeletonsAreWellFormed};
+ghost use Rattle.df_build_elem.specs.Laws.{ProgramsCountTheSame, ProgramsHaveArcs, ProgramsAreMade};
+
+use df_build_access::laws::windows_have_arcs;
+use df_build_cond::laws::{gates_are_made, gates_count_the_same, gates_have_arcs};
+use df_build_loops::laws::{loops_are_made, loops_count_the_same, loops_have_arcs};
+use df_build_terms::laws::{terms_are_made, terms_count_the_same, terms_have_arcs};
+
+/// Counting the cells of a program is building them: the same but for nodes.
+pub fn programs_count_the_same()
+    ensures { ProgramsCountTheSame }
+{
+    gates_count_the_same();
+    loops_count_the_same();
+    terms_count_the_same();
+}
+
+/// Each arc of a skeleton comes from one of its cells.
+pub fn programs_have_arcs()
+    ensures { ProgramsHaveArcs }
+{
+    gates_have_arcs();
+    windows_have_arcs();
+    loops_have_arcs();
+    terms_have_arcs();
+}
+
+/// The cells of a program within the limits are made as their kinds ask.
+pub fn programs_are_made()
+    ensures { ProgramsAreMade }
+{
+    gates_are_made();
+    loops_are_made();
+    terms_are_made();
+}
+
+/// Finished cells of a skeleton of at most 4,096 cells are well-formed; no cell is a BUF, and the inputs are the
+/// parameters.
+pub fn skeletons_are_well_formed()
+    ensures { SkeletonsAreWellFormed }
+{
+    gates_have_arcs();
+    windows_have_arcs();
+    loops_have_arcs();
+    terms_have_arcs();
+    gates_are_made();
+    loops_are_made();
+    terms_are_made();
+    programs_are_made();
+}
