@@ -17,11 +17,11 @@ use Rattle.df_stages.specs.Laws.{IsWeaklyDual}
 use Rattle.df_cancel.specs.Balances.{numbered, IsBalance, IsTight}
 use Rattle.df_labels.specs.Graphs.{Graph, node_of, graph_of}
 use Rattle.df_core.specs.declared.flat.Flat.{Flat}
-use Rattle.df_build_elem.specs.Program.{program_graph}
+use Rattle.df_build_elem.specs.Program.{program_graph, census}
 use Rattle.df_buffers_laws.specs.Buffered.{HasNoBuffers}
 use Rattle.df_buffers_laws.specs.Laws.{SameSkeletons}
 use Rattle.df_compile.specs.Placed.{most_cells, IsOver}
-use Rattle.df_compile.specs.Compiled.{IsOverfull}
+use Rattle.df_compile.specs.Compiled.{most_skeleton_cells, IsOverfull}
 
 -- there are no more nodes than cells
 few_nodes : (cells : List Cell) → length (nodes cells) ≤ length cells
@@ -46,6 +46,11 @@ module _ (cells : List Cell) (skeleton : IsSkeleton (length (nodes cells)) (arcs
       let least = weak numbers (length (nodes cells)) (arcs cells) flow skeleton.ends dual respects in
       let equal : total_excess (numbered stages) (arcs cells) ≡ flow_value (arcs cells) flow = tight.equal in
       omega (arith, ints)
+
+pub few_counted : (flat : Flat) (cells : List Cell) → graph_of cells ≡ program_graph flat → length cells ≤ 4096 → census flat ≤ most_skeleton_cells
+few_counted flat cells graph few =
+    let long : census flat ≡ length cells = ap (λ (g : Graph). length g) (sym graph) ∙ length-map cells node_of in
+    omega arith
 
 -- the same of the skeleton that was made of the cells
 pub small_stages : (cells : List Cell) (s : SkeletonLists) (stages : List ℤ) (flow : List ℕ) → s ≡ skeleton_of cells → IsSkeleton (length (nodes cells)) (arcs cells) → length cells ≤ 4096

@@ -9,7 +9,7 @@ use Rattle.df_buffers_laws.specs.HasSkeleton.{HasSkeleton}
 use Rattle.df_buffers_laws.specs.Buffered.{HasNoBuffers}
 use Rattle.df_buffers_laws.specs.Staged.{HasLowestStage}
 use Rattle.df_core.specs.declared.flat.Flat.{Flat}
-use Rattle.df_build_elem.specs.Program.{program_graph, census}
+use Rattle.df_build_elem.specs.Program.{program_graph, census, declared_inputs}
 use Rattle.df_compile.specs.Placed.{IsOver}
 use Rattle.df_compile.specs.declared.compile.CompileAnswer.{CompileAnswer}
 use Rattle.df_compile.specs.declared.compile.CompileAnswer.TheVariants.{TooManySkeletonCells, TooManyCells, Memory}
@@ -22,6 +22,7 @@ most_skeleton_cells = 4096
 pub record IsCompiledFrom (flat : Flat) (cells : List Cell) (flow : List ℕ) : Type 0 where
   pub skeleton : HasSkeleton cells (program_graph flat)
   pub well_formed : WellFormed cells
+  pub inputs : inputs_of cells ≡ declared_inputs flat
   pub balanced : IsBalanced cells
   pub least : IsLeast cells
   pub lowest : HasLowestStage cells
@@ -37,7 +38,7 @@ pub record IsOverfull (flat : Flat) : Type 0 where
 
 -- each refusal has its cause; want of memory refuses nothing
 abbrev pub IsRefused : Flat → CompileAnswer → Type 0
-IsRefused flat (TooManySkeletonCells n) = (n ≡ census flat) × (most_skeleton_cells < census flat)
+IsRefused flat (TooManySkeletonCells n) = (n ≡ census flat) × (most_skeleton_cells < n)
 IsRefused flat TooManyCells = (census flat ≤ most_skeleton_cells) × IsOverfull flat
 IsRefused flat Memory = Unit {0}
 

@@ -1,10 +1,11 @@
 //! Compiling: build, balance, place.
 ghost use Rattle.std.specs.Prelude.{◌≡◌, ◌≢◌, ◌≤◌, length, IfOk, IfErr};
+ghost use Rattle.df_cells.specs.Cells.{inputs_of};
 ghost use Rattle.df_cells.specs.WellFormed.{WellFormed};
 ghost use Rattle.df_core.specs.Within.{IsFlat};
 ghost use Rattle.df_labels.specs.Graphs.{graph_of};
 ghost use Rattle.df_stages.specs.Skeletons.{skeleton_of};
-ghost use Rattle.df_build_elem.specs.Program.{program_graph, census};
+ghost use Rattle.df_build_elem.specs.Program.{program_graph, declared_inputs};
 ghost use Rattle.df_buffers_laws.specs.Buffered.{HasNoBuffers};
 ghost use Rattle.df_compile.specs.Placed.{IsFilled, IsOver};
 ghost use Rattle.df_compile.specs.Compiled.{IsCompiledFrom, IsUnplaced, IsRefused, Fits};
@@ -69,7 +70,8 @@ fn built(alloc: Global, flat: &Flat) -> Result<Cells, CompileAnswer>
     ensures graph { IfOk result (λ cells. graph_of cells ≡ program_graph flat.now) }
     ensures well_formed { IfOk result WellFormed }
     ensures plain { IfOk result HasNoBuffers }
-    ensures few { IfOk result (λ cells. census flat.now ≤ 4096) }
+    ensures inputs { IfOk result (λ cells. inputs_of cells ≡ declared_inputs flat.now) }
+    ensures few { IfOk result (λ cells. length cells ≤ 4096) }
     ensures refused { IfErr result (λ answer. (answer ≢ CompileAnswer.TooManyCells) × IsRefused flat.now answer) }
 {
     match build(alloc, flat) {
