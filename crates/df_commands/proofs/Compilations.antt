@@ -1,11 +1,20 @@
 -- Whether the text of a source can be compiled has one answer.
 use Rattle.std.proofs.Common.{◌≡◌, ℕ, List, Result, Ok, Err, codes, refl, sym, ap, subst, ◌∙◌}
 use Rattle.df_syntax.specs.declared.program.Program.{Program}
-use Rattle.df_compile.specs.Compiled.{IsOverfull}
+use Rattle.df_core.specs.declared.flat.Flat.{Flat}
+use Rattle.df_compile.specs.Compiled.{IsOverfull, IsRefused, Fits}
+use Rattle.df_compile.specs.declared.compile.CompileAnswer.{CompileAnswer}
+use Rattle.df_compile.specs.declared.compile.CompileAnswer.TheVariants.{TooManyCells}
+use Rattle.df_commands.specs.Judged.{GivesMeaning}
 use Rattle.df_commands.specs.Laws.{CompilationsHaveOneReading, CompilationsHaveReadings, ProgramsHaveOneReading, ProgramsHaveReadings}
 use Rattle.df_commands.specs.Lines.{refusal}
 use Rattle.df_commands.specs.ProgramTexts.{flat_of, ReadsProgram, ReadsCompilable, IsNotCompilable}
 use Rattle.df_commands.specs.ProgramTexts.IsNotCompilable.{unread, overfull}
+use Rattle.df_commands.specs.Ready.{IsFlatOf}
+use Rattle.df_commands.specs.declared.programs.Source.{Source}
+use Rattle.df_commands.specs.declared.compile.CompiledSource.{CompiledSource}
+use Rattle.df_commands.specs.declared.stop.Stop.{Stop}
+use Rattle.df_commands.specs.declared.stop.Stop.TheVariants as stop
 
 the_ok : {A B : Type 0} (a b : A) → ◌≡◌ {A = Result A B} (Ok a) (Ok b) → a ≡ b
 the_ok a b e = cc
@@ -40,3 +49,19 @@ some_compilation some text none = some text read
     read : (reading : Result Program (List ℕ)) → ¬ ReadsProgram text reading
     read (Ok tree) is = none (Ok tree) (is, λ over. none (Err (refusal (codes "TooManyCells"))) (overfull tree is.0 is.1 over refl))
     read (Err line) refused = none (Err line) (unread refused)
+
+-- ---- what stops it
+
+-- why the source isn't read is why it isn't compiled
+pub not_read : (text : List ℕ) (why : Stop) → GivesMeaning (λ (s : Source). s.tree) (Err why) (ReadsProgram text) → GivesMeaning (λ (s : CompiledSource). s.tree) (Err why) (ReadsCompilable text)
+not_read text (stop.Refused line) refused = unread refused
+not_read text stop.ReadFault refused = refused
+not_read text stop.Memory refused = tt
+
+pub overfull_here : (text line : List ℕ) (tree : Program) (flat : Flat) (answer : CompileAnswer) → ReadsProgram text (Ok tree) → IsFlatOf tree flat → IsRefused flat answer → answer ≡ TooManyCells
+    → line ≡ refusal (codes "TooManyCells") → IsNotCompilable text line
+overfull_here text line tree flat answer read is refused cells says =
+    overfull tree read.0 read.1 (subst IsOverfull is.is (subst (IsRefused flat) cells refused).1) says
+
+pub compiled_here : (text : List ℕ) (tree : Program) (flat : Flat) → ReadsProgram text (Ok tree) → IsFlatOf tree flat → Fits flat → ReadsCompilable text (Ok tree)
+compiled_here text tree flat read is fits = (read, (subst Fits is.is fits).room)

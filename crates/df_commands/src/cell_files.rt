@@ -32,7 +32,7 @@ pub fn judge_cells(alloc: Global, version: Version, text: &[u8]) -> Result<Cells
     let cells = match cells_of(alloc, version, text) {
         Ok(cells) => cells,
         Err(CellTextAnswer::BadCellText(line)) => {
-            return Err(Stop::Refused(refused_at(alloc, "BadCellText", u64::from(line))?));
+            return Err(Stop::Refused(refused_at(alloc, "BadCellText", line)?));
         }
         Err(CellTextAnswer::Memory) => return Err(Stop::Memory),
     };

@@ -10,7 +10,7 @@ ghost use Rattle.df_commands.specs.Judged.{GivesMeaning, Settles};
 
 use crate::plan::{NewFile, Plan};
 use crate::programs::{Source, judge_program};
-use crate::refusals::{refused, refused_at};
+use crate::refusals::{refused, refused_count};
 use crate::report::counts;
 use crate::stop::Stop;
 use df_celltext::writer::write_cells;
@@ -41,7 +41,7 @@ pub fn judge_compilation(alloc: Global, text: &[u8]) -> Result<CompiledSource, S
         Ok(compiled) => Ok(CompiledSource { tree, compiled }),
         Err(CompileAnswer::TooManyCells) => Err(Stop::Refused(refused(alloc, "TooManyCells", "")?)),
         Err(CompileAnswer::TooManySkeletonCells(count)) => {
-            Err(Stop::Refused(refused_at(alloc, "TooManySkeletonCells", count)?))
+            Err(Stop::Refused(refused_count(alloc, "TooManySkeletonCells", count)?))
         }
         Err(CompileAnswer::Memory) => Err(Stop::Memory),
     }

@@ -9,7 +9,7 @@ ghost use Rattle.df_commands.specs.Ready.{IsFlatOf};
 ghost use Rattle.df_commands.specs.Judged.{GivesMeaning};
 
 use crate::laws::{accepted_sources_bind_new_names, accepted_sources_keep_their_demands};
-use crate::refusals::{refused, refused_at};
+use crate::refusals::{refused, refused_count};
 use crate::source_refusals::{refused_check, refused_parse, refused_place, refused_shape};
 use crate::stop::Stop;
 use df_build_elem::build::census;
@@ -110,7 +110,7 @@ fn count_cells(alloc: Global, flat: &Flat) -> Result<(), Stop>
     }
     let count = census(alloc, flat)?;
     if count > 4096 {
-        return Err(Stop::Refused(refused_at(alloc, "TooManySkeletonCells", count)?));
+        return Err(Stop::Refused(refused_count(alloc, "TooManySkeletonCells", count)?));
     }
     Ok(())
 }

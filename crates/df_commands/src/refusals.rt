@@ -14,11 +14,11 @@ use df_wellformed::answers::Rule;
 use std::alloc::Global;
 
 /// A number with a space before it.
-pub fn push_number(line: &mut Bytes, number: u64) -> Result<(), Memory>
+pub fn push_number(line: &mut Bytes, number: u32) -> Result<(), Memory>
     ensures { OnOk result (line.new ≡ line.old ++ and_word (decimal number)) }
 {
     line.push_text(" ")?;
-    line.push_number(number)
+    line.push_number(u64::from(number))
 }
 
 /// The line of a refusal for this reason.
@@ -33,14 +33,27 @@ pub fn refused(alloc: Global, reason: &str, word: &str) -> Result<Bytes, Memory>
     Ok(line)
 }
 
-/// The line of a refusal with a number.
-pub fn refused_at(alloc: Global, reason: &str, number: u64) -> Result<Bytes, Memory>
+/// The line of a refusal at a place of this number.
+pub fn refused_at(alloc: Global, reason: &str, number: u32) -> Result<Bytes, Memory>
     ensures { IfOk result (λ line. line ≡ refusal (reason.now ++ and_word (decimal number))) }
 {
     let mut line = Bytes::new(alloc);
     line.push_text("refused ")?;
     line.push_text(reason)?;
     push_number(&mut line, number)?;
+    line.push_text("\n")?;
+    Ok(line)
+}
+
+/// The line of a refusal that tells how many there are.
+pub fn refused_count(alloc: Global, reason: &str, count: u64) -> Result<Bytes, Memory>
+    ensures { IfOk result (λ line. line ≡ refusal (reason.now ++ and_word (decimal count))) }
+{
+    let mut line = Bytes::new(alloc);
+    line.push_text("refused ")?;
+    line.push_text(reason)?;
+    line.push_text(" ")?;
+    line.push_number(count)?;
     line.push_text("\n")?;
     Ok(line)
 }
@@ -67,7 +80,7 @@ pub fn refused_by_rule(alloc: Global, rule: Rule, cell: CellId) -> Result<Bytes,
     let mut line = Bytes::new(alloc);
     line.push_text("refused BadCells ")?;
     line.push_text(rule_word(rule))?;
-    push_number(&mut line, u64::from(cell.0))?;
+    push_number(&mut line, cell.0)?;
     line.push_text("\n")?;
     Ok(line)
 }
@@ -88,17 +101,17 @@ fn push_reason(line: &mut Bytes, answer: &InputAnswer) -> Result<(), Memory>
     match answer {
         InputAnswer::BadInput(number) => {
             line.push_text("BadInput")?;
-            push_number(line, u64::from(*number))
+            push_number(line, *number)
         }
         InputAnswer::ExtraInput(number) => {
             line.push_text("ExtraInput")?;
-            push_number(line, u64::from(*number))
+            push_number(line, *number)
         }
         InputAnswer::WrongLength(name, have, want) => {
             line.push_text("WrongLength")?;
             push_name(line, name)?;
-            push_number(line, u64::from(*have))?;
-            push_number(line, u64::from(*want))?;
+            push_number(line, *have)?;
+            push_number(line, *want)?;
             Ok(())
         }
         InputAnswer::MissingInput(name) => {
@@ -126,7 +139,7 @@ pub fn refused_input(alloc: Global, answer: &InputAnswer) -> Result<Bytes, Memor
 fn push_port(line: &mut Bytes, port: Dest) -> Result<(), Memory>
     ensures { OnOk result (line.new ≡ line.old ++ and_word (port_word port)) }
 {
-    push_number(line, u64::from(port.cell.0))?;
+    push_number(line, port.cell.0)?;
     line.push_text(".")?;
     line.push_number(u64::from(port.port.0))
 }
@@ -143,12 +156,12 @@ fn push_dual_reason(line: &mut Bytes, answer: DualAnswer) -> Result<(), Memory>
         }
         DualAnswer::BadFlow(cell) => {
             line.push_text("BadFlow")?;
-            push_number(line, u64::from(cell.0))
+            push_number(line, cell.0)
         }
         DualAnswer::NotEqual(value, buffers) => {
             line.push_text("NotEqual ")?;
             line.push_signed(value)?;
-            push_number(line, u64::from(buffers))
+            push_number(line, buffers)
         }
     }
 }

@@ -50,7 +50,7 @@ fn judge_schedule(alloc: Global, text: &[u8]) -> Result<Schedule, Stop>
     match read_schedule(alloc, text) {
         Ok(schedule) => Ok(schedule),
         Err(ScheduleAnswer::BadSchedule(word)) => {
-            Err(Stop::Refused(refused_at(alloc, "BadSchedule", u64::from(word))?))
+            Err(Stop::Refused(refused_at(alloc, "BadSchedule", word)?))
         }
         Err(ScheduleAnswer::Memory) => Err(Stop::Memory),
     }

@@ -19,7 +19,7 @@ use std::alloc::Global;
 fn push_place(line: &mut Bytes, place: Place) -> Result<(), Memory>
     ensures { OnOk result (line.new ≡ line.old ++ and_place place) }
 {
-    push_number(line, u64::from(place.line))?;
+    push_number(line, place.line)?;
     line.push_text(":")?;
     line.push_number(u64::from(place.column))
 }

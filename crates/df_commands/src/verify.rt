@@ -29,7 +29,7 @@ fn judge_dual(alloc: Global, text: &[u8], cells: &Cells) -> Result<Flow, Stop>
     let flow = match read_dual(alloc, text, &skeleton) {
         Ok(flow) => flow,
         Err(DualTextAnswer::BadDual(line)) => {
-            return Err(Stop::Refused(refused_at(alloc, "BadDual", u64::from(line))?));
+            return Err(Stop::Refused(refused_at(alloc, "BadDual", line)?));
         }
         Err(DualTextAnswer::Memory) => return Err(Stop::Memory),
     };

@@ -42,8 +42,8 @@ returns-in-Compile-clause-settles c =
     subst (λ (it : Command). Settles (JudgesTexts it c.args.texts.now (map string_bytes c.args.writes.now)) c.compile.result) (sym c.in-Compile.is)
     (compile_texts c.args.texts.now (map string_bytes c.args.writes.now) c.compile.result _ _ _
     (c.as_slice-in-Compile.ensures ∙ nth_is texts 0 c.index-texts-0-in-Compile.result (omega (arith, one)) c.index-texts-0-in-Compile.is)
-    (nth_is writes 0 (string_bytes c.index-writes-0-in-Compile.result) (omega (arith, two_names)) (ap string_bytes c.index-writes-0-in-Compile.is ∙ sym (get_or-map string_bytes c.args.writes.now 0 c.index-writes-0-in-Compile.result)))
-    (nth_is writes 1 (string_bytes c.index-writes-1-in-Compile.result) (omega (arith, two_names)) (ap string_bytes c.index-writes-1-in-Compile.is ∙ sym (get_or-map string_bytes c.args.writes.now 1 c.index-writes-1-in-Compile.result)))
+    (nth_is writes 0 (string_bytes c.index-writes-0.result) (omega (arith, two_names)) (ap string_bytes c.index-writes-0.is ∙ sym (get_or-map string_bytes c.args.writes.now 0 c.index-writes-0.result)))
+    (nth_is writes 1 (string_bytes c.index-writes-1.result) (omega (arith, two_names)) (ap string_bytes c.index-writes-1.is ∙ sym (get_or-map string_bytes c.args.writes.now 1 c.index-writes-1.result)))
     c.compile.ensures.settles)
 
 pub returns-in-Go-clause-settles : goal.returns-in-Go-clause-settles
@@ -58,6 +58,6 @@ returns-in-Go-clause-settles c =
     (c.as_slice-in-Go.ensures ∙ nth_is texts 0 c.index-texts-0-in-Go.result (omega (arith, three)) c.index-texts-0-in-Go.is)
     (c.as_slice-in-Go-2.ensures ∙ nth_is texts 1 c.index-texts-1-in-Go.result (omega (arith, three)) c.index-texts-1-in-Go.is)
     (c.as_slice-in-Go-3.ensures ∙ nth_is texts 2 c.index-texts-2.result (omega (arith, three)) c.index-texts-2.is)
-    (nth_is writes 0 (string_bytes c.index-writes-0.result) (omega (arith, two_names)) (ap string_bytes c.index-writes-0.is ∙ sym (get_or-map string_bytes c.args.writes.now 0 c.index-writes-0.result)))
-    (nth_is writes 1 (string_bytes c.index-writes-1.result) (omega (arith, two_names)) (ap string_bytes c.index-writes-1.is ∙ sym (get_or-map string_bytes c.args.writes.now 1 c.index-writes-1.result)))
+    (nth_is writes 0 (string_bytes c.index-writes-0-in-Go.result) (omega (arith, two_names)) (ap string_bytes c.index-writes-0-in-Go.is ∙ sym (get_or-map string_bytes c.args.writes.now 0 c.index-writes-0-in-Go.result)))
+    (nth_is writes 1 (string_bytes c.index-writes-1-in-Go.result) (omega (arith, two_names)) (ap string_bytes c.index-writes-1-in-Go.is ∙ sym (get_or-map string_bytes c.args.writes.now 1 c.index-writes-1-in-Go.result)))
     c.go.ensures.settles)
