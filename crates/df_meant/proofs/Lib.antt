@@ -20,3 +20,4 @@ pub mod Recurrences
 pub mod Blocks
 pub mod Results
 pub mod Programs
+pub mod Lengths

@@ -2,7 +2,7 @@
 use Rattle.std.specs.Prelude.{◌≡◌, ℕ, ◌+◌, slice_get, List, [], ◌∷◌, length, Some}
 use Rattle.df_values.specs.declared.values.Value.{Value}
 use Rattle.df_values.specs.declared.inputs.Input.{Input}
-use Rattle.df_values.specs.Inputs.{input_length}
+use Rattle.df_values.specs.Inputs.{input_length, declared, AreValid}
 use Rattle.df_cells.specs.declared.cells.Cell.{Cell}
 use Rattle.df_cells.specs.declared.kinds.Kind.TheVariants as kind
 use Rattle.df_cells.specs.Cells.{cell_at}
@@ -19,6 +19,10 @@ HaveLengths [] [] = Unit {0}
 HaveLengths (p ∷ parameters) (values ∷ inputs) = (length values ≡ input_length p.extent) × HaveLengths parameters inputs
 HaveLengths [] (values ∷ inputs) = ⊥
 HaveLengths (p ∷ parameters) [] = ⊥
+
+-- valid inputs of the parameters have these lengths
+abbrev pub ValidInputsHaveLengths : Type 0
+ValidInputsHaveLengths = (parameters : List Input) (inputs : List (List Value)) → AreValid (declared parameters) inputs → HaveLengths parameters inputs
 
 -- labels that meet cells and inputs, and by which each OUT receives its result
 pub record Told (cells : List Cell) (inputs results : List (List Value)) : Type 0 where

@@ -2,7 +2,7 @@
 ghost use Rattle.df_meant.specs.Blocks.{BlocksAreMeant};
 ghost use Rattle.df_meant.specs.Builds.{TermsAreMeant};
 ghost use Rattle.df_meant.specs.Folds.{SitesMeetCells};
-ghost use Rattle.df_meant.specs.Programs.{SkeletonsTell};
+ghost use Rattle.df_meant.specs.Programs.{SkeletonsTell, ValidInputsHaveLengths};
 
 use df_labels::patterns::patterns_spell;
 
@@ -31,3 +31,8 @@ pub fn skeletons_tell()
 {
     patterns_spell();
 }
+
+/// Valid inputs of parameters have their lengths.
+pub fn valid_inputs_have_lengths()
+    ensures { ValidInputsHaveLengths }
+{}
