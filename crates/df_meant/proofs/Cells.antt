@@ -11,7 +11,7 @@ use Rattle.df_values.specs.declared.kinds.Test.TheVariants as test
 use Rattle.df_values.specs.Operators.{chosen}
 use Rattle.df_cells.specs.declared.kinds.Kind.{Kind}
 use Rattle.df_cells.specs.declared.kinds.Kind.TheVariants as kind
-use Rattle.df_cells.specs.Firings.{Operands, operand, at_hand, by_control, wants, answer}
+use Rattle.df_cells.specs.Firings.{Operands, operand, at_hand, by_control, wants, answer, family_wants, family_answer, source_answer}
 use Rattle.df_cells.specs.Shifts.{is_truth, first_truth, control_values, gate_place, merge_place}
 use Rattle.df_labels.specs.Graphs.{Graph, Node}
 use Rattle.df_labels.specs.Labels.{Turn}
@@ -24,6 +24,7 @@ use Rattle.df_values.specs.declared.kinds.Unary.TheVariants.{Negation, Inversion
 use Rattle.df_labels.specs.Flows.{arc, feed_of}
 use Rattle.df_build_loops.specs.Frames.{undef}
 use Rattle.df_values.specs.Tables.{binary_answer, unary_answer}
+use Rattle.df_cells.specs.declared.kinds.Family.TheVariants as of
 use Rattle.df_cells.specs.Families.{family, kind_of, kind_of_one}
 use Rattle.df_build_cond.specs.Gates.{gate_kind as gate}
 use Rattle.df_meant.specs.Sites.{Ends, Label, Site, site_of, pattern_at, pattern_from, pattern_of, side_of, Stands, Meeting}
@@ -41,35 +42,87 @@ pub record IsPure (it : Kind) (F : Operands → Value) : Type 0 where
   pub gate : (vs : List Value) → gate_place (family it) vs ≡ 0
   pub side : (p : ℕ) (vs : List Value) → merge_place (family it) p vs ≡ 0
 
+-- the kinds of two operands, and of one, are no sources, OUT or BUF
+two_fed : (o : Binary) → IsFed (kind_of o)
+two_fed (Operation op.Add) = record { source = λ values. refl; output = refl; buffer = refl; control = refl }
+two_fed (Operation op.Sub) = record { source = λ values. refl; output = refl; buffer = refl; control = refl }
+two_fed (Operation op.Mul) = record { source = λ values. refl; output = refl; buffer = refl; control = refl }
+two_fed (Operation op.Div) = record { source = λ values. refl; output = refl; buffer = refl; control = refl }
+two_fed (Operation op.Mod) = record { source = λ values. refl; output = refl; buffer = refl; control = refl }
+two_fed (Operation op.Min) = record { source = λ values. refl; output = refl; buffer = refl; control = refl }
+two_fed (Operation op.Max) = record { source = λ values. refl; output = refl; buffer = refl; control = refl }
+two_fed (Operation op.And) = record { source = λ values. refl; output = refl; buffer = refl; control = refl }
+two_fed (Operation op.Or) = record { source = λ values. refl; output = refl; buffer = refl; control = refl }
+two_fed (Comparison rel.Lt) = record { source = λ values. refl; output = refl; buffer = refl; control = refl }
+two_fed (Comparison rel.Le) = record { source = λ values. refl; output = refl; buffer = refl; control = refl }
+two_fed (Comparison rel.Gt) = record { source = λ values. refl; output = refl; buffer = refl; control = refl }
+two_fed (Comparison rel.Ge) = record { source = λ values. refl; output = refl; buffer = refl; control = refl }
+two_fed (Comparison rel.Eq) = record { source = λ values. refl; output = refl; buffer = refl; control = refl }
+two_fed (Comparison rel.Ne) = record { source = λ values. refl; output = refl; buffer = refl; control = refl }
+
+one_fed : (o : Unary) → IsFed (kind_of_one o)
+one_fed Negation = record { source = λ values. refl; output = refl; buffer = refl; control = refl }
+one_fed Inversion = record { source = λ values. refl; output = refl; buffer = refl; control = refl }
+one_fed (Inquiry test.Undef) = record { source = λ values. refl; output = refl; buffer = refl; control = refl }
+one_fed (Inquiry test.MissElt) = record { source = λ values. refl; output = refl; buffer = refl; control = refl }
+one_fed (Inquiry test.PosOver) = record { source = λ values. refl; output = refl; buffer = refl; control = refl }
+one_fed (Inquiry test.NegOver) = record { source = λ values. refl; output = refl; buffer = refl; control = refl }
+one_fed (Inquiry test.Unknown) = record { source = λ values. refl; output = refl; buffer = refl; control = refl }
+one_fed (Inquiry test.ZeroDivide) = record { source = λ values. refl; output = refl; buffer = refl; control = refl }
+one_fed (Inquiry test.Error) = record { source = λ values. refl; output = refl; buffer = refl; control = refl }
+
+two_family : (o : Binary) → family (kind_of o) ≡ of.Two o
+two_family (Operation op.Add) = refl
+two_family (Operation op.Sub) = refl
+two_family (Operation op.Mul) = refl
+two_family (Operation op.Div) = refl
+two_family (Operation op.Mod) = refl
+two_family (Operation op.Min) = refl
+two_family (Operation op.Max) = refl
+two_family (Operation op.And) = refl
+two_family (Operation op.Or) = refl
+two_family (Comparison rel.Lt) = refl
+two_family (Comparison rel.Le) = refl
+two_family (Comparison rel.Gt) = refl
+two_family (Comparison rel.Ge) = refl
+two_family (Comparison rel.Eq) = refl
+two_family (Comparison rel.Ne) = refl
+
+one_family : (o : Unary) → family (kind_of_one o) ≡ of.One o
+one_family Negation = refl
+one_family Inversion = refl
+one_family (Inquiry test.Undef) = refl
+one_family (Inquiry test.MissElt) = refl
+one_family (Inquiry test.PosOver) = refl
+one_family (Inquiry test.NegOver) = refl
+one_family (Inquiry test.Unknown) = refl
+one_family (Inquiry test.ZeroDivide) = refl
+one_family (Inquiry test.Error) = refl
+
+-- all else is told by the family
 joins : (o : Binary) → IsPure (kind_of o) (λ x. binary_answer o (operand x 0) (operand x 1))
 unfolding answer
-joins (Operation op.Add) = record { fed = record { source = λ values. refl; output = refl; buffer = refl; control = refl }; wants = λ x p. refl; answers = λ x. refl; gate = λ vs. refl; side = λ p vs. refl }
-joins (Operation op.Sub) = record { fed = record { source = λ values. refl; output = refl; buffer = refl; control = refl }; wants = λ x p. refl; answers = λ x. refl; gate = λ vs. refl; side = λ p vs. refl }
-joins (Operation op.Mul) = record { fed = record { source = λ values. refl; output = refl; buffer = refl; control = refl }; wants = λ x p. refl; answers = λ x. refl; gate = λ vs. refl; side = λ p vs. refl }
-joins (Operation op.Div) = record { fed = record { source = λ values. refl; output = refl; buffer = refl; control = refl }; wants = λ x p. refl; answers = λ x. refl; gate = λ vs. refl; side = λ p vs. refl }
-joins (Operation op.Mod) = record { fed = record { source = λ values. refl; output = refl; buffer = refl; control = refl }; wants = λ x p. refl; answers = λ x. refl; gate = λ vs. refl; side = λ p vs. refl }
-joins (Operation op.Min) = record { fed = record { source = λ values. refl; output = refl; buffer = refl; control = refl }; wants = λ x p. refl; answers = λ x. refl; gate = λ vs. refl; side = λ p vs. refl }
-joins (Operation op.Max) = record { fed = record { source = λ values. refl; output = refl; buffer = refl; control = refl }; wants = λ x p. refl; answers = λ x. refl; gate = λ vs. refl; side = λ p vs. refl }
-joins (Operation op.And) = record { fed = record { source = λ values. refl; output = refl; buffer = refl; control = refl }; wants = λ x p. refl; answers = λ x. refl; gate = λ vs. refl; side = λ p vs. refl }
-joins (Operation op.Or) = record { fed = record { source = λ values. refl; output = refl; buffer = refl; control = refl }; wants = λ x p. refl; answers = λ x. refl; gate = λ vs. refl; side = λ p vs. refl }
-joins (Comparison rel.Lt) = record { fed = record { source = λ values. refl; output = refl; buffer = refl; control = refl }; wants = λ x p. refl; answers = λ x. refl; gate = λ vs. refl; side = λ p vs. refl }
-joins (Comparison rel.Le) = record { fed = record { source = λ values. refl; output = refl; buffer = refl; control = refl }; wants = λ x p. refl; answers = λ x. refl; gate = λ vs. refl; side = λ p vs. refl }
-joins (Comparison rel.Gt) = record { fed = record { source = λ values. refl; output = refl; buffer = refl; control = refl }; wants = λ x p. refl; answers = λ x. refl; gate = λ vs. refl; side = λ p vs. refl }
-joins (Comparison rel.Ge) = record { fed = record { source = λ values. refl; output = refl; buffer = refl; control = refl }; wants = λ x p. refl; answers = λ x. refl; gate = λ vs. refl; side = λ p vs. refl }
-joins (Comparison rel.Eq) = record { fed = record { source = λ values. refl; output = refl; buffer = refl; control = refl }; wants = λ x p. refl; answers = λ x. refl; gate = λ vs. refl; side = λ p vs. refl }
-joins (Comparison rel.Ne) = record { fed = record { source = λ values. refl; output = refl; buffer = refl; control = refl }; wants = λ x p. refl; answers = λ x. refl; gate = λ vs. refl; side = λ p vs. refl }
+joins o =
+    let is = two_family o in
+    record {
+      fed = two_fed o;
+      wants = λ x p. ap (λ f. family_wants f x p) is;
+      answers = λ x. ap (λ f. family_answer f (source_answer (kind_of o) 0 []) x) is;
+      gate = λ vs. ap (λ f. gate_place f vs) is;
+      side = λ p vs. ap (λ f. merge_place f p vs) is;
+    }
 
 changes : (o : Unary) → IsPure (kind_of_one o) (λ x. unary_answer o (operand x 0))
 unfolding answer
-changes Negation = record { fed = record { source = λ values. refl; output = refl; buffer = refl; control = refl }; wants = λ x p. refl; answers = λ x. refl; gate = λ vs. refl; side = λ p vs. refl }
-changes Inversion = record { fed = record { source = λ values. refl; output = refl; buffer = refl; control = refl }; wants = λ x p. refl; answers = λ x. refl; gate = λ vs. refl; side = λ p vs. refl }
-changes (Inquiry test.Undef) = record { fed = record { source = λ values. refl; output = refl; buffer = refl; control = refl }; wants = λ x p. refl; answers = λ x. refl; gate = λ vs. refl; side = λ p vs. refl }
-changes (Inquiry test.MissElt) = record { fed = record { source = λ values. refl; output = refl; buffer = refl; control = refl }; wants = λ x p. refl; answers = λ x. refl; gate = λ vs. refl; side = λ p vs. refl }
-changes (Inquiry test.PosOver) = record { fed = record { source = λ values. refl; output = refl; buffer = refl; control = refl }; wants = λ x p. refl; answers = λ x. refl; gate = λ vs. refl; side = λ p vs. refl }
-changes (Inquiry test.NegOver) = record { fed = record { source = λ values. refl; output = refl; buffer = refl; control = refl }; wants = λ x p. refl; answers = λ x. refl; gate = λ vs. refl; side = λ p vs. refl }
-changes (Inquiry test.Unknown) = record { fed = record { source = λ values. refl; output = refl; buffer = refl; control = refl }; wants = λ x p. refl; answers = λ x. refl; gate = λ vs. refl; side = λ p vs. refl }
-changes (Inquiry test.ZeroDivide) = record { fed = record { source = λ values. refl; output = refl; buffer = refl; control = refl }; wants = λ x p. refl; answers = λ x. refl; gate = λ vs. refl; side = λ p vs. refl }
-changes (Inquiry test.Error) = record { fed = record { source = λ values. refl; output = refl; buffer = refl; control = refl }; wants = λ x p. refl; answers = λ x. refl; gate = λ vs. refl; side = λ p vs. refl }
+changes o =
+    let is = one_family o in
+    record {
+      fed = one_fed o;
+      wants = λ x p. ap (λ f. family_wants f x p) is;
+      answers = λ x. ap (λ f. family_answer f (source_answer (kind_of_one o) 0 []) x) is;
+      gate = λ vs. ap (λ f. gate_place f vs) is;
+      side = λ p vs. ap (λ f. merge_place f p vs) is;
+    }
 
 -- ---- controls
 
