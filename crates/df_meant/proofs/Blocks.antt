@@ -25,15 +25,15 @@ use Rattle.df_core.specs.declared.flat.Body.TheVariants as body
 use Rattle.df_build_loops.specs.Frames.{undef}
 use Rattle.df_build_cond.specs.Growth.{whole, Stood, Grown}
 use Rattle.df_build_cond.specs.Gates.{patterned}
-use Rattle.df_build_elem.specs.Blocks.{Placed, turns_of, as_array, as_scalar as as_value, grown_by, element, alone, listed, constructed, folded_from, folded_first, folded_by, folded, recurred, placed, shown}
-use Rattle.df_core.specs.Meaning.{begun as beginning, or_undef, folded_more, value_at, value_alone, members, last_grown, before, made_by, with_block, scalar_of}
+use Rattle.df_build_elem.specs.Blocks.{Placed, turns_of, as_array, as_scalar, grown_by, element, alone, listed, constructed, folded_from, folded_first, folded_by, folded, recurred, placed, shown}
+use Rattle.df_core.specs.Meaning.{begun, or_undef, folded_more, value_at, value_alone, members, last_grown, before, made_by, with_block, scalar_of}
 use Rattle.df_build_elem.specs.Program.{laid_block}
 use Rattle.df_meant.specs.Sites.{Ends, Label, Site, site_of, stream, Stands, Gives, Meeting, Extends, block_turns}
 use Rattle.df_core.specs.declared.made.Made.{Made}
 use Rattle.df_core.specs.declared.made.Made.TheVariants.{Single, Many}
 use Rattle.df_meant.specs.Windows.{lesser}
 use Rattle.df_meant.specs.Builds.{OutsideStands, Fits}
-use Rattle.df_meant.specs.Folds.{no_open}
+use Rattle.df_meant.specs.SameGraph.{no_open}
 use Rattle.df_meant.specs.Blocks.{BlocksAreMeant}
 use Rattle.df_meant.proofs.Streams.{answered_source}
 use Rattle.df_meant.proofs.Groups.{extends_same, extends_both, extends_push, stands_more, stands_same, meet_push, gives_push}
@@ -262,15 +262,15 @@ module _ (spell : PatternsSpell) (inputs : Ends) (outer : List Outside) (made : 
   fold_ok : (op : Op) (lo : ℤ) (n : ℕ) (x : Term) → IsPlaced (placed whole outer (body.Fold op lo n x) graph) (made_by made (body.Fold op lo n x))
   unfolding placed folded
   fold_ok op lo zero x =
-      let v = or_undef (beginning op) in
-      (labels, meet, fits, single_stands old (Constant v) (fold_by op (beginning op) []) (λ t. sym (nothing_folded (beginning op) op)))
+      let v = or_undef (begun op) in
+      (labels, meet, fits, single_stands old (Constant v) (fold_by op (begun op) []) (λ t. sym (nothing_folded (begun op) op)))
   fold_ok op lo (suc n) x =
-      let s = folded_by whole (beginning op) op (turns_of lo (suc n)) outer x graph in
-      let r = folded_by_ok (beginning op) op lo n x in
-      let empty : Grown = record { graph = graph; flow = Constant (or_undef (beginning op)) } in
+      let s = folded_by whole (begun op) op (turns_of lo (suc n)) outer x graph in
+      let r = folded_by_ok (begun op) op lo n x in
+      let empty : Grown = record { graph = graph; flow = Constant (or_undef (begun op)) } in
       let some_cells : Grown = record { graph = s.graph; flow = Cell s.cell } in
-      subst (λ (b : Bool). IsPlaced (as_value (if b then empty else some_cells)) (Single (fold_by op (beginning op) (members made lo x (suc n))))) (sym (not_zero n))
-      (r.0, r.1, r.2, single_stands (site_of s.graph r.0) (Cell s.cell) (fold_by op (beginning op) (members made lo x (suc n))) r.3)
+      subst (λ (b : Bool). IsPlaced (as_scalar (if b then empty else some_cells)) (Single (fold_by op (begun op) (members made lo x (suc n))))) (sym (not_zero n))
+      (r.0, r.1, r.2, single_stands (site_of s.graph r.0) (Cell s.cell) (fold_by op (begun op) (members made lo x (suc n))) r.3)
 
   -- ---- recurrences
 

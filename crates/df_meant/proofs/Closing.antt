@@ -22,7 +22,7 @@ use Rattle.df_meant.specs.Sites.{given_of, Ends, Given, Label, Site, site_of, pa
 use Rattle.df_core.specs.declared.made.Made.{Made}
 use Rattle.df_core.specs.Meaning.{scalar_of}
 use Rattle.df_meant.specs.Builds.{IsShaped, Fits}
-use Rattle.df_meant.specs.Folds.{no_open}
+use Rattle.df_meant.specs.SameGraph.{no_open}
 use Rattle.df_meant.proofs.Groups.{same_some, none_some}
 
 get_set : {A : Type 0} (xs : List A) (m : ℕ) (x y : A) → slice_get xs m ≡ Some x → slice_get (set xs m y) m ≡ Some y

@@ -27,7 +27,7 @@ use Rattle.df_build_loops.specs.Frames.{closed, last}
 use Rattle.df_meant.specs.Sites.{Ends, Label, site_of, Stands, Gives, Meeting, Extends, block_turns}
 use Rattle.df_core.specs.declared.made.Made.{Made}
 use Rattle.df_meant.specs.Builds.{Fits}
-use Rattle.df_meant.specs.Folds.{no_open}
+use Rattle.df_meant.specs.SameGraph.{no_open}
 use Rattle.df_meant.proofs.Streams.{turns_block}
 use Rattle.df_meant.proofs.Groups.{extends_both, stands_more, stands_same}
 use Rattle.df_meant.proofs.Fed.{IsMade}

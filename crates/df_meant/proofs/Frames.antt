@@ -25,7 +25,7 @@ use Rattle.df_meant.specs.Sites.{Ends, Given, Label, Site, site_of, pattern_at, 
 use Rattle.df_labels.specs.Patterns.{pattern, PatternsSpell}
 use Rattle.df_build_loops.specs.Frames.{closed}
 use Rattle.df_meant.proofs.Flat.{flat}
-use Rattle.df_meant.specs.Folds.{no_open}
+use Rattle.df_meant.specs.SameGraph.{no_open}
 use Rattle.df_meant.proofs.Streams.{on_turns, answered_on, filter_all, turns_block, stream_same}
 use Rattle.df_meant.proofs.Groups.{same_some, none_some, push_at, comes_more, extends_push, ClosedMeet, meet_open}
 use Rattle.df_meant.proofs.Fed.{Supply, always, taken_flow, takings, fed_node, hands, ArcFeeds, feeds_none, fed_as, flow_of_arc, at_three, full}

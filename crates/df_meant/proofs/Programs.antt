@@ -28,7 +28,7 @@ use Rattle.df_values.specs.Inputs.{input_length}
 use Rattle.df_build_cond.specs.Growth.{whole}
 use Rattle.df_core.specs.Meaning.{made_at, values_of, given, givens, all_made, flat_mean}
 use Rattle.df_meant.specs.Builds.{OutsideStands, Fits}
-use Rattle.df_meant.specs.Folds.{no_open, labels_of}
+use Rattle.df_meant.specs.SameGraph.{no_open, labels_of}
 use Rattle.df_meant.specs.Programs.{HaveLengths, SkeletonsTell}
 use Rattle.df_meant.proofs.Streams.{turns_source, answered_source, delayed_none}
 use Rattle.df_meant.proofs.Groups.{same_some, none_some}

@@ -20,7 +20,7 @@ use Rattle.df_meant.specs.Sites.{Ends, Label, site_of, Stands, Gives, Meeting, E
 use Rattle.df_core.specs.declared.made.Made.{Made}
 use Rattle.df_core.specs.Meaning.{term_value, value_alone, last_grown}
 use Rattle.df_meant.specs.Builds.{Block, here_in, Fits}
-use Rattle.df_meant.specs.Folds.{no_open}
+use Rattle.df_meant.specs.SameGraph.{no_open}
 use Rattle.df_meant.proofs.Groups.{extends_both, stands_more, stands_same}
 use Rattle.df_meant.proofs.Forms.{fits_more, lesser_first}
 use Rattle.df_meant.proofs.Elements.{element_made}

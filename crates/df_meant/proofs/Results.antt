@@ -22,7 +22,7 @@ use Rattle.df_core.specs.declared.made.Made.{Made}
 use Rattle.df_core.specs.Meaning.{scalar_of, made_at}
 use Rattle.df_build_cond.specs.Growth.{whole}
 use Rattle.df_meant.specs.Builds.{OutsideStands, Fits}
-use Rattle.df_meant.specs.Folds.{no_open}
+use Rattle.df_meant.specs.SameGraph.{no_open}
 use Rattle.df_meant.proofs.Streams.{on_turns, received_on, filter_all, length_on, length_block, turns_block}
 use Rattle.df_meant.proofs.Groups.{extends_same, extends_both, extends_push, push_at, comes_more, meet_push, meet_push_of, gives_push, none_some}
 use Rattle.df_meant.proofs.Fed.{Supply, always, takings, takings_at, fed_node, ArcFeeds, fed_with, at_one, all_wanted}

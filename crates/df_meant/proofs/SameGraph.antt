@@ -19,7 +19,7 @@ use Rattle.df_labels.specs.Graphs.{Graph, Node, node_of, graph_of}
 use Rattle.df_labels.specs.Histories.{listed}
 use Rattle.df_labels.specs.Labels.{Turn, later, Labels, turns_of, Stream, stream_turns, stream_values, answered, received, source_list, source_values, AreRising, IsRightFiring, MeetsAt, LabelsMeet}
 use Rattle.df_meant.specs.Sites.{Ends, Label, site_of, pattern_at, pattern_from, pattern_of, gate_of, side_of, delayed, cell_of, values_in, MeetsNode, Meeting}
-use Rattle.df_meant.specs.Folds.{no_open, labels_of, AreReceived}
+use Rattle.df_meant.specs.SameGraph.{no_open, labels_of, AreReceived}
 use Rattle.df_meant.proofs.Groups.{same_some, none_some}
 
 -- ---- streams

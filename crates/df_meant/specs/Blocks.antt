@@ -7,7 +7,7 @@ use Rattle.df_build_cond.specs.Growth.{whole}
 use Rattle.df_build_elem.specs.Program.{Laid, laid_block}
 use Rattle.df_meant.specs.Sites.{Ends, Label, site_of, Meeting}
 use Rattle.df_meant.specs.Builds.{Fits}
-use Rattle.df_meant.specs.Folds.{no_open}
+use Rattle.df_meant.specs.SameGraph.{no_open}
 
 -- Blocks are built to what they mean: where labels meet the graph before them, and what stands outside stands for what was made,
 -- this is so after them.

@@ -11,7 +11,7 @@ use Rattle.df_labels.specs.Labels.{Labels, LabelsMeet}
 use Rattle.df_core.specs.declared.flat.Flat.{Flat}
 use Rattle.df_core.specs.Meaning.{flat_mean}
 use Rattle.df_build_elem.specs.Program.{program_graph}
-use Rattle.df_meant.specs.Folds.{AreReceived}
+use Rattle.df_meant.specs.SameGraph.{AreReceived}
 
 -- one list for each parameter, of its length
 abbrev pub HaveLengths : List Input → List (List Value) → Type 0

@@ -1,7 +1,7 @@
 //! Laws of the definitions.
 ghost use Rattle.df_meant.specs.Blocks.{BlocksAreMeant};
 ghost use Rattle.df_meant.specs.Builds.{TermsAreMeant};
-ghost use Rattle.df_meant.specs.Folds.{SitesMeetCells};
+ghost use Rattle.df_meant.specs.SameGraph.{SitesMeetCells};
 ghost use Rattle.df_meant.specs.Programs.{SkeletonsTell, ValidInputsHaveLengths};
 
 use df_labels::patterns::patterns_spell;
