@@ -23,8 +23,8 @@ use Rattle.df_build_access.specs.Elements.{windowed}
 abbrev pub IsAmong : ℕ → ℤ → Type 0
 IsAmong m place = (pos 0 ≤ℤ place) × (place <ℤ pos m)
 
--- in the turn t, whose element stands at this place among m elements: the element is there just where the turn is one of those that
--- are kept, and it is the one after those that are skipped and those of the kept turns before
+-- in the turn t, whose element stands at this place among m elements: the element is there just where the turn is one
+-- of those that are kept, and it is the one after those that are skipped and those of the kept turns before
 abbrev pub MeetsAt : ℕ → ℕ → ℤ → Option Window → Type 0
 MeetsAt t m place None = IsAmong m place → ⊥
 MeetsAt t m place (Some w) =

@@ -1,5 +1,5 @@
--- Zones along a block. While the element of a block is built, its cells have one zone, but for those that have to lie below:
--- CTL cells, and gates that pass their first value late.
+-- Zones along a block. While the element of a block is built, its cells have one zone, but for those that have to lie
+-- below: CTL cells, and gates that pass their first value late.
 use Rattle.std.specs.Prelude.{◌≡◌, ◌≤◌, ◌<◌, ◌⊎◌, ℕ, Bool, List, length, Some}
 use Rattle.std.specs.List.{AllByRecursion}
 use Rattle.df_cells.specs.declared.kinds.Kind.{Kind}
@@ -13,8 +13,8 @@ use Rattle.df_build_cond.specs.Growth.{Stood, Grown}
 use Rattle.df_build_cond.specs.Arms.{Arm, Passed, Crossed}
 use Rattle.df_build_cond.specs.Orderly.{zone_at, controls_in, gate_in, Orderly}
 
--- no CTL, or one whose truth values are all alike: under such a control a gate passes its first value or none, and a MERGE takes
--- the first values of its sides at once
+-- no CTL, or one whose truth values are all alike: under such a control a gate passes its first value or none, and a
+-- MERGE takes the first values of its sides at once
 abbrev pub IsSteady : Kind → Type 0
 IsSteady it = (side : Bool) → first_truth side (control_values it) ≡ 0
 

@@ -1,4 +1,5 @@
--- What a cell has by itself: ports and runs as its kind asks, an arc where it waits for one, and a length that is allowed.
+-- What a cell has by itself: ports and runs as its kind asks, an arc where it waits for one, and a length that is
+-- allowed.
 use Rattle.std.specs.Prelude.{◌≡◌, ◌≤◌, ◌<◌, ◌⊎◌, ◌+ℤ◌, pos, ℕ, ℤ, true, false, List, length, slice_get, Some, None}
 use Rattle.std.specs.List.{AllByRecursion}
 use Rattle.df_values.specs.Values.{IsOrdinary}

@@ -1,5 +1,5 @@
--- Orderly graphs: each cell has a zone, a number that falls along no arc. Along an arc within a zone the turn is equal and the
--- number of the cell rises, or the turn rises by one and the number falls, or no value passes.
+-- Orderly graphs: each cell has a zone, a number that falls along no arc. Along an arc within a zone the turn is equal
+-- and the number of the cell rises, or the turn rises by one and the number falls, or no value passes.
 use Rattle.std.specs.Prelude.{◌≡◌, ◌<◌, ◌⊎◌, ◌+◌, ◌++◌, ℕ, false, List, [], length, get_or, slice_get, Option, Some, None}
 use Rattle.std.specs.List.{AllByRecursion}
 use Rattle.df_values.specs.declared.values.Value.{Value}
@@ -29,7 +29,8 @@ gate_in graph u = gate_place (family (node_at graph u).kind) (controls_in graph 
 abbrev pub side_in : Graph → ℕ → ℕ → ℕ
 side_in graph c p = merge_place (family (node_at graph c).kind) p (controls_in graph c)
 
--- the arc within a zone from u to port p of c: forward without shift, back with shift 1, or back where no control is false
+-- the arc within a zone from u to port p of c: forward without shift, back with shift 1, or back where no control is
+-- false
 abbrev pub StaysIn : Graph → ℕ → ℕ → ℕ → Type 0
 StaysIn graph c p u =
     ((gate_in graph u ≡ 0) × (side_in graph c p ≡ 0) × (u < c))
