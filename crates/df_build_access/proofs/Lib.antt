@@ -2,3 +2,4 @@ pub mod Standing
 pub mod WindowLemmas
 pub mod Meetings
 pub mod WindowCells
+pub mod WindowZones

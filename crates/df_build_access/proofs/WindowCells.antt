@@ -23,13 +23,13 @@ use Rattle.df_build_access.specs.Laws.{WindowsCountTheSame, ArrayBelow, WindowsH
 use Rattle.df_build_access.proofs.WindowLemmas.{no_window}
 
 -- the parts of the two patterns
-abbrev cut_parts : Array → Window → List (ℕ × Bool)
+abbrev pub cut_parts : Array → Window → List (ℕ × Bool)
 cut_parts a w = (w.skipped, false) ∷ (w.kept, true) ∷ (a.n - w.skipped - w.kept, false) ∷ []
 
-abbrev filled_parts : ℕ → Window → List (ℕ × Bool)
+abbrev pub filled_parts : ℕ → Window → List (ℕ × Bool)
 filled_parts n w = (w.missed, false) ∷ (w.kept, true) ∷ (n - w.missed - w.kept, false) ∷ []
 
-abbrev sides : Stood → List Flow
+abbrev pub sides : Stood → List Flow
 sides s = Cell s.cell ∷ Constant (Error MissElt) ∷ []
 
 -- ---- counting
@@ -66,7 +66,7 @@ windows_count_the_same gates f keep lo n a offset g = by_window gates f keep n a
 
 -- ---- where there is a window, there are elements
 
-never : (lo : ℤ) (n : ℕ) (a : Array) (offset : ℤ) (w : Window) → window_of lo n a offset ≡ Some w → a.n ≡ 0 → ⊥
+pub never : (lo : ℤ) (n : ℕ) (a : Array) (offset : ℤ) (w : Window) → window_of lo n a offset ≡ Some w → a.n ≡ 0 → ⊥
 never lo n a offset w is none = apart (no_window lo n a offset none) is
   where
     apart : window_of lo n a offset ≡ None → window_of lo n a offset ≡ Some w → ⊥

@@ -1,16 +1,17 @@
 -- What windows meet, and what is known of graphs with their cells.
-use Rattle.std.specs.Prelude.{◌≡◌, ◌≤◌, ◌<◌, ◌↔◌, ◌⊎◌, ℕ, ℤ, pos, ◌+◌, ◌-◌, ◌+ℤ◌, ◌-ℤ◌, ◌≤ℤ◌, ◌<ℤ◌, true, false, if◌then◌else◌, ◌==◌, [], ◌∷◌, map, length, Option, Some, None}
+use Rattle.std.specs.Prelude.{◌≡◌, ◌≤◌, ◌<◌, ◌↔◌, ◌⊎◌, ℕ, ℤ, pos, ◌+◌, ◌-◌, ◌+ℤ◌, ◌-ℤ◌, ◌≤ℤ◌, ◌<ℤ◌, true, false, if◌then◌else◌, ◌==◌, List, [], ◌∷◌, map, length, Option, Some, None}
 use Rattle.df_values.specs.declared.values.Value.TheVariants.{Error}
 use Rattle.df_values.specs.declared.values.ErrorValue.TheVariants.{MissElt}
 use Rattle.df_cells.specs.declared.kinds.Kind.TheVariants as kind
 use Rattle.df_labels.specs.declared.graphs.Flow.TheVariants.{Constant, Cell}
-use Rattle.df_labels.specs.Graphs.{Graph, Node}
+use Rattle.df_labels.specs.Graphs.{Graph, Node, node_at}
 use Rattle.df_build_cond.specs.Growth.{Grown, whole}
 use Rattle.df_build_cond.specs.Gates.{patterned}
 use Rattle.df_build_cond.specs.Counting.{over_grown}
 use Rattle.df_build_cond.specs.Within.{ArcsBelow, GrowsAfter}
 use Rattle.df_build_cond.specs.Made.{AreMade}
-use Rattle.df_build_cond.specs.Orderly.{IsOrderly}
+use Rattle.df_build_cond.specs.Orderly.{zone_at, Orderly, IsOrderly}
+use Rattle.df_build_cond.specs.InZone.{IsSteady, KeepsCells, GrowsInZone}
 use Rattle.df_build_access.specs.declared.windows.Array.{Array}
 use Rattle.df_build_access.specs.declared.windows.Window.{Window}
 use Rattle.df_build_access.specs.Windows.{window_of}
@@ -76,3 +77,13 @@ WindowsAreMade = (lo : ℤ) (n : ℕ) (a : Array) (offset : ℤ) (graph : Graph)
 abbrev pub WindowsAreOrderly : Type 0
 WindowsAreOrderly = (lo : ℤ) (n : ℕ) (a : Array) (offset : ℤ) (graph : Graph) → ArrayBelow (length graph) a → ArcsBelow (length graph) graph
     → IsOrderly graph → IsOrderly (windowed whole lo n a offset graph).graph
+
+-- an array has no elements, or its cell gives them at least two zones below: a gate of a window has a zone between
+abbrev pub ArraySuits : Graph → List ℕ → ℕ → Array → Type 0
+ArraySuits graph zones z a =
+    (a.n ≡ 0) ⊎ ((a.cell < length graph) × IsSteady (node_at graph a.cell).kind × (zone_at zones a.cell + 1 < z))
+
+pub record WindowsStayInZone : Type 0 where
+  pub array_more : (g h : Graph) (x y : List ℕ) (z : ℕ) (a : Array) → KeepsCells g x h y → ArraySuits g x z a → ArraySuits h y z a
+  pub windowed : (lo : ℤ) (n : ℕ) (a : Array) (offset : ℤ) (graph : Graph) (zones : List ℕ) (z first : ℕ) → Orderly zones graph
+      → first ≤ length graph → ArraySuits graph zones z a → GrowsInZone graph zones z first (windowed whole lo n a offset graph)

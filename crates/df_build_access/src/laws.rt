@@ -1,8 +1,8 @@
 //! What follows from the definitions alone: each call does nothing, and its contract is a law.
-ghost use Rattle.df_build_access.specs.Laws.{WindowsMeet, PicksAreWindows, WindowsCountTheSame, WindowsHaveArcs, WindowsAreMade, WindowsAreOrderly};
+ghost use Rattle.df_build_access.specs.Laws.{WindowsMeet, PicksAreWindows, WindowsCountTheSame, WindowsHaveArcs, WindowsAreMade, WindowsAreOrderly, WindowsStayInZone};
 
 use df_build_cond::laws::{
-    gates_are_made, gates_are_orderly, gates_count_the_same, gates_have_arcs,
+    gates_are_made, gates_are_orderly, gates_count_the_same, gates_have_arcs, gates_stay_in_zone,
 };
 
 /// A window keeps the turns in which the element is there, and takes these elements in order.
@@ -42,4 +42,11 @@ pub fn windows_are_orderly()
 {
     gates_have_arcs();
     gates_are_orderly();
+}
+
+/// While a block is built, the cells of an access stay in its zone, but for a gate, which lies below.
+pub fn windows_stay_in_zone()
+    ensures { WindowsStayInZone }
+{
+    gates_stay_in_zone();
 }

@@ -95,7 +95,7 @@ ruled_after g it flows runs arcs all =
 
 -- ---- arms
 
-noted_all : (P : ℕ → Type 0) (table : Noted) (v c : ℕ) → P c → ((u d : ℕ) → table u ≡ Some d → P d) → (u d : ℕ) → noted table v c u ≡ Some d → P d
+pub noted_all : (P : ℕ → Type 0) (table : Noted) (v c : ℕ) → P c → ((u d : ℕ) → table u ≡ Some d → P d) → (u d : ℕ) → noted table v c u ≡ Some d → P d
 unfolding noted
 noted_all P table v c new old u d = go (v == u)
   where

@@ -6,3 +6,4 @@ pub mod Arcs
 pub mod MadeNodes
 pub mod MadeGates
 pub mod Zones
+pub mod OneZone

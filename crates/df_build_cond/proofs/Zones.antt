@@ -26,13 +26,13 @@ use Rattle.df_build_cond.specs.Orderly.{zone_at, controls_by, controls_in, gate_
 
 -- ---- old cells in a longer graph
 
-old_node : (g new : Graph) (c : ℕ) → c < length g → node_at (g ++ new) c ≡ node_at g c
+pub old_node : (g new : Graph) (c : ℕ) → c < length g → node_at (g ++ new) c ≡ node_at g c
 old_node g new c less = get_or_append_left g new no_node c less
 
 pub new_node : (g new : Graph) (i : ℕ) → node_at (g ++ new) (length g + i) ≡ node_at new i
 new_node g new i = get_or-append-add g new i no_node
 
-old_controls : (g new : Graph) → HasArcs g → (c : ℕ) → c < length g → controls_in (g ++ new) c ≡ controls_in g c
+pub old_controls : (g new : Graph) → HasArcs g → (c : ℕ) → c < length g → controls_in (g ++ new) c ≡ controls_in g c
 old_controls g new there c less =
     ap (λ (n : Node). controls_by (g ++ new) (cell_from (slice_get n.ports 0))) (old_node g new c less) ∙ go (cell_from (slice_get (node_at g c).ports 0)) refl
   where
@@ -123,7 +123,7 @@ rises g zones more u i count less above =
     let low = under_total zones u in
     omega (arith, zu, zc, low, above)
 
-no_arc : {A : Type 0} {u : CellId} → None ≡ Some u → A
+pub no_arc : {A : Type 0} {u : CellId} → None ≡ Some u → A
 no_arc e = absurd (none e)
   where
     none : {u : CellId} → None ≡ Some u → ⊥
@@ -152,7 +152,7 @@ cell_orderly g it flows all o = (o.0 ++ more, zones_extend g new o.0 more o.1 re
         (omega (arith, below), inl (rises g o.0 more u.0 0 o.1.count below (omega arith)))
     arcs (suc i) p u is = no_arc is
 
-append_twice : (g : Graph) (x y : Node) → (g ++ x ∷ []) ++ y ∷ [] ≡ g ++ x ∷ y ∷ []
+pub append_twice : (g : Graph) (x y : Node) → (g ++ x ∷ []) ++ y ∷ [] ≡ g ++ x ∷ y ∷ []
 append_twice [] x y = refl
 append_twice (n ∷ g) x y = ap (λ l. n ∷ l) (append_twice g x y)
 

@@ -1,5 +1,5 @@
 -- What is known of graphs with gates, MERGE cells and arms.
-use Rattle.std.specs.Prelude.{◌≡◌, ◌≤◌, ◌<◌, ◌+◌, ℕ, ℤ, Bool, List, [], ◌∷◌, map, length}
+use Rattle.std.specs.Prelude.{◌≡◌, ◌≤◌, ◌<◌, ◌+◌, ℕ, ℤ, Bool, List, [], ◌∷◌, ◌++◌, map, length}
 use Rattle.std.specs.List.{AllByRecursion}
 use Rattle.df_values.specs.declared.values.Value.{Value}
 use Rattle.df_values.specs.declared.values.Basic.{Basic}
@@ -20,7 +20,8 @@ use Rattle.df_build_cond.specs.Arms.{Arm, pass, cross}
 use Rattle.df_build_cond.specs.Counting.{over_stood, over_passed, over_crossed}
 use Rattle.df_build_cond.specs.Within.{ArcsBelow, FlowBelow, ArmBelow, StandsAfter, PassesAfter, CrossesAfter}
 use Rattle.df_build_cond.specs.Made.{AreOrdinary, IsMade, AreMade}
-use Rattle.df_build_cond.specs.Orderly.{zone_at, IsOrderly, ZonesExtend}
+use Rattle.df_build_cond.specs.Orderly.{zone_at, Orderly, IsOrderly, ZonesExtend}
+use Rattle.df_build_cond.specs.InZone.{IsSteady, Suits, FlowSuits, FlowUnder, ArmSuits, KeepsCells, StandsInZone, PassesInZone, CrossesInZone, StandsAtZone}
 
 -- ---- where less is kept of nodes, the graph is the same but for nodes
 
@@ -95,3 +96,29 @@ pub record GatesAreOrderly : Type 0 where
   pub cross : (level : ℕ) (graph : Graph) (arms : List Arm) (flow : Flow) → ArcsBelow (length graph) graph
       → AllByRecursion (ArmBelow (length graph)) arms → FlowBelow (length graph) flow
       → IsOrderly graph → IsOrderly (cross whole level graph arms flow).graph
+
+pub record GatesStayInZone : Type 0 where
+  -- operators, and a CTL of one value
+  pub joined : (how : Binary) → IsSteady (kind_of how)
+  pub changed : (how : Unary) → IsSteady (kind_of_one how)
+  pub listed : (n : ℕ) (v : Value) → IsSteady (kind.Ctl (steady n v))
+  -- what suited still suits where no cell is lost
+  pub kept_refl : (graph : Graph) (zones : List ℕ) → KeepsCells graph zones graph zones
+  pub kept_trans : (g h k : Graph) (x y z : List ℕ) → KeepsCells g x h y → KeepsCells h y k z → KeepsCells g x k z
+  pub suits_more : (g h : Graph) (x y : List ℕ) (z first c : ℕ) → KeepsCells g x h y → Suits g x z first c → Suits h y z first c
+  pub flow_more : (g h : Graph) (x y : List ℕ) (z first : ℕ) (flow : Flow) → KeepsCells g x h y
+      → FlowSuits g x z first flow → FlowSuits h y z first flow
+  pub arms_more : (g h : Graph) (x y : List ℕ) (z first : ℕ) (arms : List Arm) → KeepsCells g x h y
+      → AllByRecursion (ArmSuits g x z first) arms → AllByRecursion (ArmSuits h y z first) arms
+  pub appended : (graph new : Graph) (zones more : List ℕ) → Orderly zones graph → KeepsCells graph zones (graph ++ new) (zones ++ more)
+  -- a cell of the zone
+  pub pushed : (graph : Graph) (it : Kind) (flows : List Flow) (zones : List ℕ) (z first : ℕ) → Orderly zones graph → first ≤ length graph
+      → AllByRecursion (FlowSuits graph zones z first) flows → IsSteady it → StandsInZone graph zones z first (pushed whole graph it flows)
+  -- a cell with a CTL of its own, above all that feeds it
+  pub ruled : (graph : Graph) (it : Kind) (flows : List Flow) (runs : List Run) (zones : List ℕ) (z : ℕ) → Orderly zones graph → 0 < z
+      → AllByRecursion (FlowUnder graph zones z) flows → StandsAtZone graph zones it runs z (ruled whole graph it flows runs)
+  pub pass : (arm : Arm) (graph : Graph) (flow : Flow) (zones : List ℕ) (z first : ℕ) → Orderly zones graph → first ≤ length graph
+      → ArmSuits graph zones z first arm → FlowSuits graph zones z first flow → PassesInZone graph zones z first (pass whole arm graph flow)
+  pub cross : (level : ℕ) (graph : Graph) (arms : List Arm) (flow : Flow) (zones : List ℕ) (z first : ℕ) → Orderly zones graph
+      → first ≤ length graph → AllByRecursion (ArmSuits graph zones z first) arms → FlowSuits graph zones z first flow
+      → CrossesInZone graph zones z first (cross whole level graph arms flow)

@@ -7,4 +7,5 @@ pub mod Counting
 pub mod Within
 pub mod Made
 pub mod Orderly
+pub mod InZone
 pub mod Laws

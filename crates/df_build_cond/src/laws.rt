@@ -1,5 +1,5 @@
 //! What follows from the definitions alone: each call does nothing, and its contract is a law.
-ghost use Rattle.df_build_cond.specs.Laws.{GatesCountTheSame, GatesHaveArcs, GatesAreMade, GatesAreOrderly};
+ghost use Rattle.df_build_cond.specs.Laws.{GatesCountTheSame, GatesHaveArcs, GatesAreMade, GatesAreOrderly, GatesStayInZone};
 
 use df_labels::patterns::{
     patterns_are_canonical, patterns_spell, steady_is_canonical, steady_spells,
@@ -28,4 +28,9 @@ pub fn gates_are_made()
 /// A graph with zones has zones with such cells too.
 pub fn gates_are_orderly()
     ensures { GatesAreOrderly }
+{}
+
+/// While a block is built, its gates, MERGE cells and arms stay in one zone.
+pub fn gates_stay_in_zone()
+    ensures { GatesStayInZone }
 {}

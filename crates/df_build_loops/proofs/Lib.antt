@@ -2,3 +2,5 @@ pub mod Counted
 pub mod Arcs
 pub mod Made
 pub mod Zones
+pub mod Closing
+pub mod FrameZones

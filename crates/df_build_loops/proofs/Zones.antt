@@ -20,13 +20,13 @@ use Rattle.df_build_loops.specs.Holds.{held}
 use Rattle.df_build_loops.specs.Frames as frames
 use Rattle.df_build_loops.specs.Laws.{LoopsAreOrderly}
 
-no_arc : {A : Type 0} {u : CellId} → None ≡ Some u → A
+pub no_arc : {A : Type 0} {u : CellId} → None ≡ Some u → A
 no_arc e = absurd (none e)
   where
     none : {u : CellId} → None ≡ Some u → ⊥
     none e = cc
 
-the_cell : {c : ℕ} {u : CellId} → Some (record { 0 = c }) ≡ Some u → u.0 ≡ c
+pub the_cell : {c : ℕ} {u : CellId} → Some (record { 0 = c }) ≡ Some u → u.0 ≡ c
 the_cell e = sym (ap first e)
   where
     first : Option CellId → ℕ
@@ -38,31 +38,31 @@ append_four [] x y z w = refl
 append_four (n ∷ g) x y z w = ap (λ l. n ∷ l) (append_four g x y z w)
 
 module _ (gates : GatesAreOrderly) (g : Graph) (u n : ℕ) (two : 2 ≤ n) where
-  abbrev m : ℕ
+  abbrev pub m : ℕ
   m = length g
 
-  abbrev merge_node : Node
+  abbrev pub merge_node : Node
   merge_node = node kind.Merge (Cell (m + 1) ∷ Cell u ∷ Cell (m + 2) ∷ [])
 
-  abbrev first_only : Node
+  abbrev pub first_only : Node
   first_only = node (kind.Ctl (pattern ((1, true) ∷ (n - 1, false) ∷ []))) []
 
-  abbrev gate_node : Node
+  abbrev pub gate_node : Node
   gate_node = node kind.Tgate (Cell (m + 3) ∷ Cell m ∷ [])
 
-  abbrev all_but_last : Node
+  abbrev pub all_but_last : Node
   all_but_last = node (kind.Ctl (pattern ((n - 1, true) ∷ (1, false) ∷ []))) []
 
-  abbrev new : Graph
+  abbrev pub new : Graph
   new = merge_node ∷ first_only ∷ gate_node ∷ all_but_last ∷ []
 
-  abbrev h : Graph
+  abbrev pub h : Graph
   h = g ++ new
 
   at : (i : ℕ) → node_at h (m + i) ≡ node_at new i
   at i = get_or-append-add g new i no_node
 
-  at_merge : node_at h m ≡ merge_node
+  pub at_merge : node_at h m ≡ merge_node
   at_merge = let e : m + 0 ≡ m = omega arith in ap (node_at h) (sym e) ∙ at 0
 
   one_less : n - 1 ≡ suc (n - 2)
@@ -84,20 +84,23 @@ module _ (gates : GatesAreOrderly) (g : Graph) (u n : ℕ) (two : 2 ≤ n) where
       ap (λ (x : Node). merge_place (family x.kind) 2 (controls_in h m)) at_merge
       ∙ (ap (first_truth false) merge_controls ∙ ap (λ (k : ℕ). first_truth false (run_values (pattern ((1, true) ∷ (k, false) ∷ [])))) one_less)
 
-  merge_passes : gate_in h m ≡ 0
+  pub merge_passes : gate_in h m ≡ 0
   merge_passes = ap (λ (x : Node). gate_place (family x.kind) (controls_in h m)) at_merge
 
   gate_takes : side_in h (m + 2) 1 ≡ 0
   gate_takes = ap (λ (x : Node). merge_place (family x.kind) 1 (controls_in h (m + 2))) (at 2)
 
+  pub held_is : (held whole g u n).graph ≡ h
+  held_is = append_four g merge_node first_only gate_node all_but_last
+
   module _ (zones : List ℕ) (o : Orderly zones g) (z : ℕ) (less : u < m) (above : zone_at zones u < z) where
-    abbrev more : List ℕ
+    abbrev pub more : List ℕ
     more = z ∷ 0 ∷ z ∷ 0 ∷ []
 
     zone : (i : ℕ) → zone_at (zones ++ more) (m + i) ≡ zone_at more i
     zone i = subst (λ k. zone_at (zones ++ more) (k + i) ≡ zone_at more i) o.count (get_or-append-add zones more i 0)
 
-    zone_merge : zone_at (zones ++ more) m ≡ z
+    pub zone_merge : zone_at (zones ++ more) m ≡ z
     zone_merge = let e : m + 0 ≡ m = omega arith in ap (zone_at (zones ++ more)) (sym e) ∙ zone 0
 
     zone_scalar : zone_at (zones ++ more) u ≡ zone_at zones u
@@ -136,7 +139,7 @@ module _ (gates : GatesAreOrderly) (g : Graph) (u n : ℕ) (two : 2 ≤ n) where
     arcs (suc (suc (suc (suc i)))) p v is = no_arc is
 
     pub held_in : Orderly (zones ++ more) (held whole g u n).graph
-    held_in = subst (Orderly (zones ++ more)) (sym (append_four g merge_node first_only gate_node all_but_last)) (gates.extended g new zones more o refl arcs)
+    held_in = subst (Orderly (zones ++ more)) (sym held_is) (gates.extended g new zones more o refl arcs)
 
 -- ---- with a zone above all others
 

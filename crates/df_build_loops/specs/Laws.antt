@@ -1,13 +1,17 @@
 -- What is known of graphs with holds and frames.
-use Rattle.std.specs.Prelude.{◌≡◌, ◌≤◌, ◌<◌, ℕ, map, length}
+use Rattle.std.specs.Prelude.{◌≡◌, ◌≤◌, ◌<◌, ◌+◌, ℕ, true, false, List, [], ◌∷◌, map, length}
 use Rattle.df_values.specs.declared.kinds.Op.{Op}
+use Rattle.df_cells.specs.declared.kinds.Kind.TheVariants as kind
+use Rattle.df_cells.specs.Kinds.{run_values}
 use Rattle.df_labels.specs.declared.graphs.Flow.{Flow}
-use Rattle.df_labels.specs.Graphs.{Graph, Node, no_node}
-use Rattle.df_build_cond.specs.Growth.{Grown, whole}
+use Rattle.df_labels.specs.Graphs.{Graph, Node, no_node, node_at}
+use Rattle.df_labels.specs.Patterns.{pattern}
+use Rattle.df_build_cond.specs.Growth.{Stood, Grown, whole}
 use Rattle.df_build_cond.specs.Counting.{over_stood, over_grown}
 use Rattle.df_build_cond.specs.Within.{ArcsBelow, FlowBelow, StandsAfter}
 use Rattle.df_build_cond.specs.Made.{AreMade}
-use Rattle.df_build_cond.specs.Orderly.{IsOrderly}
+use Rattle.df_build_cond.specs.Orderly.{zone_at, controls_in, Orderly, IsOrderly}
+use Rattle.df_build_cond.specs.InZone.{IsSteady, Suits, FlowSuits, FlowUnder, KeepsCells, StandsInZone}
 use Rattle.df_build_loops.specs.Holds.{held}
 use Rattle.df_build_loops.specs.Frames.{opened, previous, closed, last}
 use Rattle.df_build_loops.specs.Folds.{Loop, loop_begun, loop_ended}
@@ -74,3 +78,53 @@ pub record LoopsAreOrderly : Type 0 where
   pub opened : (graph : Graph) (first : Flow) (n : ℕ) → FlowBelow (length graph) first → IsOrderly graph → IsOrderly (opened whole graph first n).graph
   pub previous : (graph : Graph) (merge n : ℕ) → merge < length graph → IsOrderly graph → IsOrderly (previous whole graph merge n).graph
   pub last : (graph : Graph) (all n : ℕ) → all < length graph → IsOrderly graph → IsOrderly (last whole graph all n).graph
+
+-- ---- zones of loops that are closed
+
+-- an open loop of n turns, whose MERGE has the zone z
+pub record IsOpen (graph : Graph) (zones : List ℕ) (z n merge : ℕ) : Type 0 where
+  pub there : merge < length graph
+  pub merges : (node_at graph merge).kind ≡ kind.Merge
+  pub zone : zone_at zones merge ≡ z
+  pub controls : controls_in graph merge ≡ run_values (pattern ((1, true) ∷ (n, false) ∷ []))
+
+pub record OpensInZone (old : Graph) (zones : List ℕ) (z n : ℕ) (s : Stood) : Type 0 where
+  pub more : List ℕ
+  pub orderly : Orderly more s.graph
+  pub kept : KeepsCells old zones s.graph more
+  pub cell : s.cell ≡ length old
+  pub opens : IsOpen s.graph more z n s.cell
+
+-- the gate may be taken by cells of the loop that come after the MERGE
+pub record BeginsInZone (old : Graph) (zones : List ℕ) (z n : ℕ) (l : Loop) : Type 0 where
+  pub more : List ℕ
+  pub orderly : Orderly more l.graph
+  pub kept : KeepsCells old zones l.graph more
+  pub merge : l.merge ≡ length old
+  pub opens : IsOpen l.graph more z n l.merge
+  pub gate : Suits l.graph more z (l.merge + 1) l.gate
+
+pub record EndsAboveZone (old : Graph) (zones : List ℕ) (s : Stood) : Type 0 where
+  pub more : List ℕ
+  pub orderly : Orderly more s.graph
+  pub kept : KeepsCells old zones s.graph more
+  pub there : s.cell < length s.graph
+  pub steady : IsSteady (node_at s.graph s.cell).kind
+
+pub record LoopsStayInZone : Type 0 where
+  pub open_more : (g h : Graph) (x y : List ℕ) (z n merge : ℕ) → KeepsCells g x h y → IsOpen g x z n merge → IsOpen h y z n merge
+  pub held : (graph : Graph) (scalar n : ℕ) (zones : List ℕ) (z first : ℕ) → Orderly zones graph → first ≤ length graph → 2 ≤ n
+      → scalar < length graph → zone_at zones scalar < z → StandsInZone graph zones z first (held whole graph scalar n)
+  pub opened : (graph : Graph) (first : Flow) (n : ℕ) (zones : List ℕ) (z : ℕ) → Orderly zones graph → 0 < z → FlowUnder graph zones z first
+      → OpensInZone graph zones z n (opened whole graph first n)
+  pub previous : (graph : Graph) (merge n : ℕ) (zones : List ℕ) (z first : ℕ) → Orderly zones graph → 0 < z → first ≤ length graph
+      → IsOpen graph zones z n merge → StandsInZone graph zones z first (previous whole graph merge n)
+  -- the body comes from below, or from a cell of the zone behind the MERGE
+  pub closed : (graph : Graph) (merge : ℕ) (next : Flow) (zones : List ℕ) (z n : ℕ) → Orderly zones graph → IsOpen graph zones z n merge
+      → FlowSuits graph zones z (merge + 1) next
+      → Orderly zones (closed graph merge next) × KeepsCells graph zones (closed graph merge next) zones
+  pub begun : (first : Flow) (n : ℕ) (graph : Graph) (zones : List ℕ) (z : ℕ) → Orderly zones graph → 0 < z → FlowUnder graph zones z first
+      → BeginsInZone graph zones z n (loop_begun whole first n graph)
+  pub ended : (op : Op) (merge gate n : ℕ) (body : Grown) (zones : List ℕ) (z : ℕ) → Orderly zones body.graph → IsOpen body.graph zones z n merge
+      → Suits body.graph zones z (merge + 1) gate → FlowSuits body.graph zones z (merge + 1) body.flow
+      → EndsAboveZone body.graph zones (loop_ended whole op merge gate n body)
