@@ -10,6 +10,7 @@ use Rattle.df_cells.specs.Cells.{port_of}
 use Rattle.df_cells.specs.WellFormed.{WellFormed}
 use Rattle.df_stages.specs.Skeletons.{nodes, arcs, no_arc, no_cell_id, arc_at, buffers, skeleton_of, cell_id}
 use Rattle.df_stages.specs.Flows.{IsConservedAt, IsDualFlow, flow_value}
+use Rattle.df_stages.specs.Laws.{EndsHaveStages}
 use Rattle.df_stages.specs.Balance.{IsBalanced}
 use Rattle.df_stages.specs.Carried.{SuitsCells}
 use Rattle.df_dual_check.specs.declared.answer.DualAnswer.{DualAnswer}
@@ -67,9 +68,9 @@ module _ (cells : List Cell) where
   not_dual : (flow : List ℕ) (c : CellId) → IsFirstUnconserved (skeleton_of cells) flow c → IsDualFlow (length (nodes cells)) (arcs cells) flow → ⊥
   not_dual flow c (node, within, named, wrong, before) dual = let long = length-map (nodes cells) cell_id in wrong (dual.conserved node (omega (arith, within, long)))
 
-module _ (cells : List Cell) (well_formed : WellFormed cells) (suits : SuitsCells cells) (flow : List ℕ) where
+module _ (ends : EndsHaveStages) (cells : List Cell) (well_formed : WellFormed cells) (suits : SuitsCells cells) (flow : List ℕ) where
   not_balanced : (d : Dest) → ShownWrong cells flow (NotBalanced d) → IsBalanced cells → ⊥
-  not_balanced d (inl (i, within, named, wrong, before)) balanced = wrong (each_balanced cells well_formed suits balanced i within)
+  not_balanced d (inl (i, within, named, wrong, before)) balanced = wrong (each_balanced ends cells well_formed suits balanced i within)
   not_balanced d (inr (all, c, off, at)) balanced = off.1 (balanced.nodes c.0 off.0)
 
   same_port : (d e : Dest) → ShownWrong cells flow (NotBalanced d) → ShownWrong cells flow (NotBalanced e) → d ≡ e
@@ -97,7 +98,7 @@ module _ (cells : List Cell) (well_formed : WellFormed cells) (suits : SuitsCell
       let all = all_found cells (arcs cells) (length (arcs cells)) refl (omega arith) each in
       least_fails (IsLevelAt cells) (length cells) (λ c h wrong before. none (NotBalanced (port_of c 0)) (inr (all, record { 0 = c }, (h, wrong, before), refl)))
       (λ level.
-      let balanced = all_balanced cells well_formed suits all level in
+      let balanced = all_balanced ends cells well_formed suits all level in
       let long = length-map (nodes cells) cell_id in
       least_fails (IsConservedAt (arcs cells) flow) (length (nodes cells))
       (λ node h wrong before. none (BadFlow (slice_index_or (skeleton_of cells).nodes node no_cell_id)) (balanced, (node, omega (arith, h, long), refl, wrong, before)))

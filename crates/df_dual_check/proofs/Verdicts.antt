@@ -2,6 +2,7 @@
 use Rattle.std.proofs.Common.{◌≡◌, ℕ, ◌+◌, ◌<◌, ◌≤◌, nat_lt, Bool, true, false, List, [], length, All, Option, Some, None, MatchOption, Result, Ok, Err, MatchResult, IsOk, IfErr, ◌↔◌, inl, inr, pos, refl, sym, ap, subst, ◌∙◌, arith, rules}
 use Rattle.std.specs.Prelude.{slice_get}
 use Rattle.std.proofs.lemmas.Bool.{ltb-true, ltb-false}
+use Rattle.std.proofs.lemmas.Option.{same_Some}
 use Rattle.std.proofs.lemmas.List.{get_or_default, get_or_past, length-map}
 use Rattle.df_cells.specs.declared.cells.CellId.{CellId}
 use Rattle.df_cells.specs.declared.cells.Dest.{Dest}
@@ -9,9 +10,10 @@ use Rattle.df_cells.specs.declared.cells.Cell.{Cell}
 use Rattle.df_cells.specs.Cells.{no_cell, cell_from, port_of, producer_of, is_buf}
 use Rattle.df_cells.specs.WellFormed.{WellFormed}
 use Rattle.df_stages.specs.declared.skeleton.SkeletonArc.{SkeletonArc}
+use Rattle.df_stages.specs.Flows.{arc_length}
 use Rattle.df_stages.specs.Skeletons.{nodes, arcs, no_arc, arc_at, cell_id}
-use Rattle.df_stages.specs.Balance.{stage_of, IsBalanced, IsLeast}
-use Rattle.df_stages.specs.Laws.{CertifiesLeast}
+use Rattle.df_stages.specs.Balance.{stage_of, rise_of, IsBalanced, IsLeast}
+use Rattle.df_stages.specs.Laws.{CertifiesLeast, EndsHaveStages}
 use Rattle.df_stages.specs.Carried.{SuitsCells, Carries}
 use Rattle.df_stages.proofs.Backs.{back_moves}
 use Rattle.df_stages.proofs.Parts.{fed_within}
@@ -56,10 +58,10 @@ port_within cells d u fed = by (nat_lt d.cell.0 (length cells)) refl
         let none : producer_of cells d ≡ None = ap (λ (c : Cell). cell_from (slice_get c.ports d.port.0)) past ∙ no_port d.port.0 in
         let e : Some u ≡ None = sym fed ∙ none in cc
 
-module _ (cells : List Cell) (well_formed : WellFormed cells) (suits : SuitsCells cells) where
+module _ (ends : EndsHaveStages) (cells : List Cell) (well_formed : WellFormed cells) (suits : SuitsCells cells) where
   pub all_balanced : All (IsBalancedAt cells) (arcs cells) → IsLevel cells → IsBalanced cells
   all_balanced all level = record {
-    arcs = λ k d l. (all k d l).long;
+    arcs = λ k d l. let e = ends cells well_formed level k d l in e.2 ∙ (all k d l).long e.0 e.1;
     buffers = risen;
     nodes = level;
   }
@@ -72,8 +74,13 @@ module _ (cells : List Cell) (well_formed : WellFormed cells) (suits : SuitsCell
 
   -- in balanced cells each arc is balanced
   pub each_balanced : IsBalanced cells → (i : ℕ) → i < length (arcs cells) → IsBalancedAt cells (arc_at (arcs cells) i)
-  each_balanced balanced i within = record { long = balanced.arcs i no_arc within; buffers = risen }
+  each_balanced balanced i within = record { long = long; buffers = risen }
     where
+      long : (u : CellId) → producer_of cells (arc_at (arcs cells) i).name ≡ Some u → rise_of cells (arc_at (arcs cells) i) u ≡ arc_length (arc_at (arcs cells) i)
+      long u fed =
+          let e = ends cells well_formed balanced.nodes i no_arc within in
+          ap (rise_of cells (arc_at (arcs cells) i)) (same_Some u e.0 (sym fed ∙ e.1)) ∙ sym e.2 ∙ balanced.arcs i no_arc within
+
       d : Dest
       d = (arc_at (arcs cells) i).name
 
@@ -86,10 +93,10 @@ module _ (cells : List Cell) (well_formed : WellFormed cells) (suits : SuitsCell
 
 -- ---- answers
 
-module _ (cells : List Cell) (well_formed : WellFormed cells) (suits : SuitsCells cells) (flow : List ℕ) where
+module _ (ends : EndsHaveStages) (cells : List Cell) (well_formed : WellFormed cells) (suits : SuitsCells cells) (flow : List ℕ) where
   -- what is certified has none of the faults
   pub not_certified : (answer : DualAnswer) → ShownWrong cells flow answer → IsCertified cells flow → ⊥
-  not_certified (NotBalanced d) (inl (i, within, named, wrong, before)) certified = wrong (each_balanced cells well_formed suits certified.balanced i within)
+  not_certified (NotBalanced d) (inl (i, within, named, wrong, before)) certified = wrong (each_balanced ends cells well_formed suits certified.balanced i within)
   not_certified (NotBalanced d) (inr (all, c, off, at)) certified = off.1 (certified.balanced.nodes c.0 off.0)
   not_certified (BadFlow c) (balanced, (node, within, named, wrong, before)) certified =
       let long = length-map (nodes cells) cell_id in wrong (certified.certificate.dual.conserved node (omega (arith, within, long)))

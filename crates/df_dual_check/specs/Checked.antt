@@ -1,17 +1,17 @@
 -- What the checker of least buffers tells.
-use Rattle.std.specs.Prelude.{◌≡◌, ◌≢◌, ℕ, ◌+◌, ◌<◌, ◌⊎◌, pos, true, List, length, All, slice_index_or}
+use Rattle.std.specs.Prelude.{◌≡◌, ◌≢◌, ℕ, ◌+◌, ◌<◌, ◌⊎◌, pos, true, List, length, All, Some, slice_index_or}
 use Rattle.df_cells.specs.declared.cells.CellId.{CellId}
 use Rattle.df_cells.specs.declared.cells.Dest.{Dest}
 use Rattle.df_cells.specs.declared.cells.Cell.{Cell}
-use Rattle.df_cells.specs.Cells.{port_of, is_buf}
+use Rattle.df_cells.specs.Cells.{port_of, producer_of, is_buf}
 use Rattle.df_cells.specs.Shifts.{back, back_over}
 use Rattle.df_stages.specs.declared.skeleton.SkeletonArc.{SkeletonArc}
 use Rattle.df_stages.specs.SkeletonLists.{SkeletonLists}
 use Rattle.df_stages.specs.Nodes.{node_of}
 use Rattle.df_stages.specs.Skeletons.{nodes, arcs, arc_at, buffers, skeleton_of, no_cell_id}
 use Rattle.df_stages.specs.Carried.{Carries}
-use Rattle.df_stages.specs.Flows.{IsBalancedArc, IsConservedAt, IsDualFlow, flow_value}
-use Rattle.df_stages.specs.Balance.{stage_of, node_stages, IsBalanced, IsCertificate}
+use Rattle.df_stages.specs.Flows.{arc_length, IsConservedAt, IsDualFlow, flow_value}
+use Rattle.df_stages.specs.Balance.{stage_of, rise_of, IsBalanced, IsCertificate}
 use Rattle.df_dual_check.specs.declared.answer.DualAnswer.{DualAnswer}
 use Rattle.df_dual_check.specs.declared.answer.DualAnswer.TheVariants.{NotBalanced, BadFlow, NotEqual}
 
@@ -29,9 +29,9 @@ AllRise cells c = (n : ℕ) → is_buf cells (back_over cells n c) ≡ true → 
 abbrev pub BuffersRise : List Cell → Dest → Type 0
 BuffersRise cells d = (b : ℕ) → Carries cells d b → Rises cells b
 
--- the stages agree on an arc and on its BUF cells
+-- From the cell at which an arc begins to the cell at which it ends the stage rises by its weight and its BUF cells, and they rise on it.
 pub record IsBalancedAt (cells : List Cell) (arc : SkeletonArc) : Type 0 where
-  pub long : IsBalancedArc (node_stages cells) arc
+  pub long : (u : CellId) → producer_of cells arc.name ≡ Some u → rise_of cells arc u ≡ arc_length arc
   pub buffers : BuffersRise cells arc.name
 
 -- the port that names the first arc on which they don't

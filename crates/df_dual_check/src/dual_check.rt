@@ -40,6 +40,7 @@ fn check_all(s: &Skeleton, cells: &Cells, flow: &[u32]) -> Result<(), DualAnswer
     ensures { MatchResult result (λ _. IsCertified cells.now flow.now) (ShownWrong cells.now flow.now) }
 {
     laws::has_skeletons();
+    laws::ends_have_stages();
     if let Some(name) = first_unbalanced(s, cells) {
         return Err(DualAnswer::NotBalanced(name));
     }
@@ -66,6 +67,7 @@ pub fn check_dual(s: &Skeleton, cells: &Cells, flow: &Flow) -> Result<(), DualAn
     ensures first { IfErr result (ShownWrong cells.now flow.now) }
 {
     laws::has_skeletons();
+    laws::ends_have_stages();
     laws::certifies_least();
     check_all(s, cells, flow.as_slice())
 }

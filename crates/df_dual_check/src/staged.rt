@@ -1,26 +1,19 @@
-//! The stages of nodes and of the cells in them.
-ghost use Rattle.std.specs.Prelude.{◌≡◌, ◌<◌, ◌↔◌, IsTrue, MatchOption, All, pos, ◌+ℤ◌, ◌-ℤ◌, length, map};
+//! The stages of the cells on arcs and in nodes.
+ghost use Rattle.std.specs.Prelude.{◌≡◌, ◌<◌, ◌↔◌, IsTrue, MatchOption, All, Some, pos, ◌+ℤ◌, ◌-ℤ◌, length};
+ghost use Rattle.df_cells.specs.declared.cells.CellId.{CellId};
+ghost use Rattle.df_cells.specs.Cells.{producer_of};
 ghost use Rattle.df_cells.specs.WellFormed.{WellFormed};
-ghost use Rattle.df_stages.specs.Flows.{IsBalancedArc};
+ghost use Rattle.df_stages.specs.Flows.{arc_length};
 ghost use Rattle.df_stages.specs.Skeletons as skeletons;
-ghost use Rattle.df_stages.specs.Skeletons.{cell_id, skeleton_of};
-ghost use Rattle.df_stages.specs.Balance.{node_stages, stage_of};
+ghost use Rattle.df_stages.specs.Skeletons.{skeleton_of};
+ghost use Rattle.df_stages.specs.Balance.{rise_of, stage_of};
 ghost use Rattle.df_dual_check.specs.Checked.{IsBalancedAt, IsFirstUnbalanced, IsLevel, IsFirstOff};
 
 use crate::rising::buffers_rise;
 use df_cells::cells::{CellId, Cells, Dest};
 use df_stages::laws;
+use df_stages::origins::origin_of;
 use df_stages::skeleton::{Skeleton, SkeletonArc};
-
-/// The stage of a node: that of its least cell.
-fn node_stage(cells: &Cells, nodes: &[CellId], place: u32) -> u32
-    requires nodes { nodes.now ≡ map cell_id (skeletons.nodes cells.now) }
-    requires within { All (λ c. c < length cells.now) (skeletons.nodes cells.now) }
-    requires place { place < length (skeletons.nodes cells.now) }
-    ensures { pos result ≡ node_stages cells.now place }
-{
-    cells.get(nodes[place as usize]).stage
-}
 
 /// Whether a stage is above another by a weight and so many BUF cells.
 fn is_above(to: u32, from: u32, weight: i64, buffers: u32) -> bool
@@ -29,30 +22,27 @@ fn is_above(to: u32, from: u32, weight: i64, buffers: u32) -> bool
     i128::from(to) - i128::from(from) == i128::from(weight) + i128::from(buffers)
 }
 
-/// Whether the stage rises along an arc by its weight and its BUF cells.
-fn is_long(cells: &Cells, nodes: &[CellId], arc: &SkeletonArc) -> bool
-    requires nodes { nodes.now ≡ map cell_id (skeletons.nodes cells.now) }
-    requires within { All (λ c. c < length cells.now) (skeletons.nodes cells.now) }
-    requires from { arc.now.from < length (skeletons.nodes cells.now) }
-    requires to { arc.now.to < length (skeletons.nodes cells.now) }
-    ensures { IsTrue result ↔ IsBalancedArc (node_stages cells.now) arc.now }
+/// Whether the stage rises along an arc by its weight and its BUF cells, from the cell at which it begins.
+fn is_long(cells: &Cells, arc: &SkeletonArc) -> bool
+    requires well_formed { WellFormed cells.now }
+    requires name { arc.now.name.cell.0 < length cells.now }
+    ensures { IsTrue result ↔ ((u : CellId) → producer_of cells.now arc.now.name ≡ Some u → rise_of cells.now arc.now u ≡ arc_length arc.now) }
 {
-    let to = node_stage(cells, nodes, arc.to);
-    let from = node_stage(cells, nodes, arc.from);
-    is_above(to, from, arc.weight, arc.buffers)
+    let Some(from) = cells.producer_of(arc.name) else {
+        return true;
+    };
+    let begins = origin_of(cells, from).cell;
+    let to = cells.get(arc.name.cell).stage;
+    is_above(to, cells.get(begins).stage, arc.weight, arc.buffers)
 }
 
 /// Whether the stages agree on an arc and on the BUF cells that stand on it.
-fn is_balanced_at(cells: &Cells, nodes: &[CellId], arc: &SkeletonArc) -> bool
+fn is_balanced_at(cells: &Cells, arc: &SkeletonArc) -> bool
     requires well_formed { WellFormed cells.now }
-    requires nodes { nodes.now ≡ map cell_id (skeletons.nodes cells.now) }
-    requires within { All (λ c. c < length cells.now) (skeletons.nodes cells.now) }
-    requires from { arc.now.from < length (skeletons.nodes cells.now) }
-    requires to { arc.now.to < length (skeletons.nodes cells.now) }
     requires name { arc.now.name.cell.0 < length cells.now }
     ensures { IsTrue result ↔ IsBalancedAt cells.now arc.now }
 {
-    is_long(cells, nodes, arc) && buffers_rise(cells, arc.name)
+    is_long(cells, arc) && buffers_rise(cells, arc.name)
 }
 
 /// The first arc on which the stages don't agree.
@@ -62,10 +52,9 @@ pub fn first_unbalanced(s: &Skeleton, cells: &Cells) -> Option<Dest>
     ensures { MatchOption result (All (IsBalancedAt cells.now) (skeletons.arcs cells.now)) (IsFirstUnbalanced cells.now) }
 {
     laws::has_skeletons();
-    let nodes = s.nodes();
     let arcs = s.arcs();
     for arc in arcs {
-        if !is_balanced_at(cells, nodes, arc) {
+        if !is_balanced_at(cells, arc) {
             return Some(arc.name);
         }
     }

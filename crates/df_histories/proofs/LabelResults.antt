@@ -26,7 +26,7 @@ use Rattle.df_histories.proofs.Delivers.{delivered_after}
 use Rattle.df_histories.proofs.Labels.{front_after}
 
 -- an arc feeds the port of an OUT
-out_fed : (cells : List Cell) → CanRun cells → (c k m : ℕ) → (cell_at cells c).kind ≡ kind.Out k m → is_some (producer_of cells (port_of c 0)) ≡ true
+pub out_fed : (cells : List Cell) → CanRun cells → (c k m : ℕ) → (cell_at cells c).kind ≡ kind.Out k m → is_some (producer_of cells (port_of c 0)) ≡ true
 out_fed cells w c k m is =
     let within = within_from_kind cells c k m is in
     elim (w.control c within) [
@@ -51,7 +51,7 @@ listed_first None rest h = cc
 listed_first (Some v) rest h = refl
 
 -- what an OUT writes is what it takes
-writes_taken : (cells : List Cell) (c k m : ℕ) → (cell_at cells c).kind ≡ kind.Out k m → is_some (producer_of cells (port_of c 0)) ≡ true
+pub writes_taken : (cells : List Cell) (c k m : ℕ) → (cell_at cells c).kind ≡ kind.Out k m → is_some (producer_of cells (port_of c 0)) ≡ true
     → (xs : List Operands) → AllByRecursion (IsRight (cell_at cells c)) xs → written_by cells c xs ≡ took 0 xs
 writes_taken cells c k m is fed [] all = refl
 writes_taken cells c k m is fed (x ∷ xs) all =

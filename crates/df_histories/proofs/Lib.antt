@@ -7,3 +7,5 @@ pub mod LabelResults
 pub mod Results
 pub mod Following
 pub mod EventCounts
+pub mod Wanted
+pub mod Received

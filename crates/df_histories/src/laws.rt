@@ -1,5 +1,5 @@
 //! What holds of the histories of every run of well-formed cells, for all inputs and all choices.
-ghost use Rattle.df_histories.specs.Laws.{NeverClashes, IsDeterminate, CountsEvents, FollowsEquations, AccountsForValues, FollowsHistories, ResultsFollowHistories, FollowsLabels};
+ghost use Rattle.df_histories.specs.Laws.{NeverClashes, IsDeterminate, CountsEvents, FollowsEquations, AccountsForValues, FollowsHistories, ResultsFollowHistories, FollowsLabels, WantedIsTaken, ResultsHaveOutputs, ResultsAreReceived};
 
 /// No operand ever comes to a place that is not empty.
 pub fn never_clashes()
@@ -39,4 +39,19 @@ pub fn results_follow_histories()
 /// A run agrees with all labels that meet the cells and inputs: firings, values on each arc, and results.
 pub fn follows_labels()
     ensures { FollowsLabels }
+{}
+
+/// What a cell now wants, the next firing of its label takes.
+pub fn wanted_is_taken()
+    ensures { WantedIsTaken }
+{}
+
+/// Each result is that of an output.
+pub fn results_have_outputs()
+    ensures { ResultsHaveOutputs }
+{}
+
+/// Where no packet is in flight, a result is what its output took so far.
+pub fn results_are_received()
+    ensures { ResultsAreReceived }
 {}

@@ -19,3 +19,4 @@ pub mod Drained
 pub mod ThreeCellsRun
 pub mod Starts
 pub mod Turns
+pub mod Waits

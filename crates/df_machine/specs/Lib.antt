@@ -10,3 +10,4 @@ pub mod Seen
 pub mod Turns
 pub mod ThreeCells
 pub mod Rows
+pub mod Waiting

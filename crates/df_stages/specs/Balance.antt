@@ -1,9 +1,11 @@
 -- Balanced cells, least buffers, and the certificate that shows both.
-use Rattle.std.specs.Prelude.{◌≡◌, ℕ, ◌+◌, ◌<◌, ℤ, pos, ◌≤ℤ◌, true, List, length, get_or, Some}
+use Rattle.std.specs.Prelude.{◌≡◌, ℕ, ◌+◌, ◌*◌, ◌<◌, ℤ, pos, ◌-ℤ◌, ◌≤ℤ◌, cond, true, List, length, get_or, Some}
 use Rattle.df_cells.specs.declared.cells.CellId.{CellId}
 use Rattle.df_cells.specs.declared.cells.Cell.{Cell}
 use Rattle.df_cells.specs.Cells.{cell_at, port_of, producer_of}
 use Rattle.df_cells.specs.Cells.{is_buf}
+use Rattle.df_cells.specs.Shifts.{origin, gate_part}
+use Rattle.df_stages.specs.declared.skeleton.SkeletonArc.{SkeletonArc}
 use Rattle.df_stages.specs.Nodes.{node_of}
 use Rattle.df_stages.specs.Skeletons.{nodes, arcs, buffers}
 use Rattle.df_stages.specs.Flows.{AreBalancedArcs, Respects, total_excess, IsDualFlow, flow_value}
@@ -11,9 +13,17 @@ use Rattle.df_stages.specs.Flows.{AreBalancedArcs, Respects, total_excess, IsDua
 abbrev pub stage_of : List Cell → ℕ → ℕ
 stage_of cells c = (cell_at cells c).stage
 
+-- the stage of a cell; behind a gate, a BUF cell counts twice what the gate leaves out
+abbrev pub height : List Cell → ℕ → ℕ
+height cells c = stage_of cells c + cond (is_buf cells c) (2 * gate_part cells (origin cells c)) 0
+
 -- the stages of the nodes, by their places: that of a node is that of its least cell
 abbrev pub node_stages : List Cell → ℕ → ℤ
 node_stages cells place = pos (stage_of cells (get_or (nodes cells) place 0))
+
+-- the stages of the cells between which an arc leads: that of its port, and the one at which it begins, over its BUF cells
+abbrev pub rise_of : List Cell → SkeletonArc → CellId → ℤ
+rise_of cells arc u = pos (stage_of cells arc.name.cell.0) -ℤ pos (stage_of cells (origin cells u.0))
 
 -- On each arc between nodes the stage rises by the weight and the BUF cells, from the cell that feeds a BUF cell to it by one,
 -- and within a node not at all.

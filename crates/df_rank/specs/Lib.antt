@@ -1,0 +1,6 @@
+pub mod Ranks
+pub mod Suits
+pub mod Good
+pub mod Zones
+pub mod Hold
+pub mod Laws
