@@ -19,24 +19,23 @@ use Rattle.df_labels.specs.Graphs.{Node, node_at, node_of, graph_of}
 use Rattle.df_core.specs.Within.{IsFlat}
 use Rattle.df_core.specs.declared.flat.Flat.{Flat}
 use Rattle.df_build_cond.specs.Growth.{whole}
-use Rattle.df_build_cond.specs.Laws.{GatesHaveArcs}
+use Rattle.df_build_cond.specs.Laws.{GatesStayInZone}
 use Rattle.df_build_cond.specs.Made.{IsMade, AreMade}
-use Rattle.df_build_access.specs.Laws.{WindowsHaveArcs}
-use Rattle.df_build_loops.specs.Laws.{LoopsHaveArcs}
+use Rattle.df_build_loops.specs.Laws.{LoopsStayInZone}
+use Rattle.df_build_terms.specs.InZone.{TermsStayInZone}
 use Rattle.df_build_terms.specs.Made.{kinds_of, TermsAreMade}
-use Rattle.df_build_terms.specs.Within.{TermsHaveArcs}
 use Rattle.df_build_elem.specs.Finished.{IsFinished, SkeletonsAreWellFormed}
 use Rattle.df_build_elem.specs.Laws.{ProgramsAreMade}
 use Rattle.df_build_elem.specs.Program.{declared_input, declared_inputs, laid, result_more, program_on, program_graph}
-use Rattle.df_build_elem.proofs.Arcs.{laid_whole}
 use Rattle.df_build_elem.proofs.Ends.{HasEnds, IsShortEnd, IsNext, AreNumbered}
 use Rattle.df_build_elem.proofs.Made.{IsLaidShort}
 use Rattle.df_build_elem.proofs.Results.{laid_ends, results_ends}
 use Rattle.df_build_elem.proofs.Senders.{ComeFromSenders, results_sent}
+use Rattle.df_build_elem.proofs.Zones.{laid_zones}
 
 -- ---- cells and their graph
 
-same_node : (cells : List Cell) (c : ℕ) → node_at (graph_of cells) c ≡ node_of (cell_at cells c)
+pub same_node : (cells : List Cell) (c : ℕ) → node_at (graph_of cells) c ≡ node_of (cell_at cells c)
 same_node [] c = refl
 same_node (cell ∷ cells) zero = refl
 same_node (cell ∷ cells) (suc c) = same_node cells c
@@ -229,7 +228,8 @@ well_formed flat cells is f few made come both =
 
 -- ---- skeletons
 
-module _ (arcs : GatesHaveArcs) (windows : WindowsHaveArcs) (loops : LoopsHaveArcs) (terms : TermsHaveArcs) (made_terms : TermsAreMade) (made : ProgramsAreMade) (short : (flat : Flat) → IsFlat flat → IsLaidShort (laid whole flat [])) where
+module _ (gates : GatesStayInZone) (loops : LoopsStayInZone) (terms : TermsStayInZone) (made_terms : TermsAreMade) (made : ProgramsAreMade)
+    (short : (flat : Flat) → IsFlat flat → IsLaidShort (laid whole flat [])) where
   skeleton_ends : (flat : Flat) → IsFlat flat
       → (count : ℕ) × HasEnds (declared_inputs flat) count (kinds_of (program_graph flat))
   unfolding program_on
@@ -243,9 +243,8 @@ module _ (arcs : GatesHaveArcs) (windows : WindowsHaveArcs) (loops : LoopsHaveAr
   unfolding program_on
   skeleton_sent flat is =
       let l = laid whole flat [] in
-      let good = laid_whole arcs windows loops terms flat in
       let ends = laid_ends made_terms flat is in
-      results_sent l.outer l.graph (arcs.there l.graph good.arcs) ends.count good.outer flat.results
+      results_sent l.outer l.graph (laid_zones gates loops terms flat) ends.count flat.results
 
   pub skeletons_are_well_formed : SkeletonsAreWellFormed
   skeletons_are_well_formed = record {

@@ -1,10 +1,11 @@
 pub mod Counting
 pub mod Lists
-pub mod Arcs
 pub mod Ranges
 pub mod Made
 pub mod Ends
 pub mod Inside
 pub mod Results
+pub mod Zones
 pub mod Senders
 pub mod Finished
+pub mod CellZones

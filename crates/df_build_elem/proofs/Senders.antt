@@ -10,19 +10,18 @@ use Rattle.df_cells.specs.declared.cells.CellId.{CellId}
 use Rattle.df_cells.specs.declared.kinds.Kind.{Kind}
 use Rattle.df_cells.specs.declared.kinds.Kind.TheVariants as kind
 use Rattle.df_labels.specs.Flows.{feed_of}
-use Rattle.df_labels.specs.Graphs.{Graph, Node, HasArcs, no_node, node_at}
+use Rattle.df_labels.specs.Graphs.{Graph, Node, no_node, node_at}
 use Rattle.df_labels.specs.Patterns.{steady}
 use Rattle.df_labels.specs.declared.graphs.Flow.{Flow}
 use Rattle.df_labels.specs.declared.graphs.Flow.TheVariants.{Constant, Cell}
 use Rattle.df_build_cond.specs.Growth.{node, whole, with_cell, pushed}
-use Rattle.df_build_cond.specs.Within.{FlowBelow}
 use Rattle.df_build_terms.specs.Made.{kinds_of}
 use Rattle.df_build_terms.specs.declared.building.Outside.{Outside}
 use Rattle.df_build_terms.specs.declared.building.Outside.TheVariants.{Single, Many}
 use Rattle.df_build_elem.specs.Program.{Shown, result_of, result_more}
-use Rattle.df_build_elem.proofs.Arcs.{OneBelow}
 use Rattle.df_build_elem.proofs.Ends.{outputs_in}
 use Rattle.df_build_elem.proofs.Lists.{all_map, all_get, fold_keeps}
+use Rattle.df_build_elem.proofs.Zones.{FlowMayBeTaken, OutsideMayBeTaken, HasZones}
 
 -- a cell that is there and is no OUT
 pub record IsSender (g : Graph) (c : ℕ) : Type 0 where
@@ -162,21 +161,22 @@ kind_at (n ∷ g) (suc c) = kind_at g c
 sender_of : (g : Graph) → outputs_in (kinds_of g) ≡ 0 → (c : ℕ) → c < length g → IsSender g c
 sender_of g none c less = record { there = less; inner = ap is_output (kind_at g c) ∙ none_counted (kinds_of g) none c }
 
-flow_of : (g : Graph) → outputs_in (kinds_of g) ≡ 0 → (f : Flow) → FlowBelow (length g) f → FlowSends g f
-flow_of g none (Constant v) below = tt
-flow_of g none (Cell c) below = sender_of g none c below
+flow_of : (g : Graph) → outputs_in (kinds_of g) ≡ 0 → (f : Flow) → FlowMayBeTaken g f → FlowSends g f
+flow_of g none (Constant v) taken = tt
+flow_of g none (Cell c) taken = sender_of g none c taken.there
 
-outside_of : (g : Graph) → outputs_in (kinds_of g) ≡ 0 → (o : Outside) → OneBelow (length g) o → OutsideSends g o
-unfolding OutsideSends OneBelow
-outside_of g none (Single f) below = flow_of g none f below
-outside_of g none (Many a) below = sender_of g none a.cell below
+outside_of : (g : Graph) → outputs_in (kinds_of g) ≡ 0 → (o : Outside) → OutsideMayBeTaken g o → OutsideSends g o
+unfolding OutsideSends OutsideMayBeTaken
+outside_of g none (Single f) taken = flow_of g none f taken
+outside_of g none (Many a) taken = sender_of g none a.cell taken.there
 
-pub results_sent : (outer : List Outside) (g : Graph) → HasArcs g → outputs_in (kinds_of g) ≡ 0
-    → AllByRecursion (OneBelow (length g)) outer → (numbers : List ℕ)
+pub results_sent : (outer : List Outside) (g : Graph) → HasZones outer g → outputs_in (kinds_of g) ≡ 0
+    → (numbers : List ℕ)
     → ComeFromSenders (fold (result_more whole outer) (record { graph = g; count = 0 }) numbers).graph
-results_sent outer g arcs none below numbers =
+results_sent outer g good none numbers =
+    let o = good.orderly in
     (fold_keeps (λ (s : Shown). IsSent outer s.graph) (result_more whole outer) (more_sent outer) numbers (record { graph = g; count = 0 })
     (record {
-      come = λ c p u is. sender_of g none u.0 (arcs c p u is);
-      outside = all_map (OneBelow (length g)) (OutsideSends g) (outside_of g none) outer below;
+      come = λ c p u is. sender_of g none u.0 (o.there c p u is);
+      outside = all_map (OutsideMayBeTaken g) (OutsideSends g) (outside_of g none) outer good.outside;
     })).come

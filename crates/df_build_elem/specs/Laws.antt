@@ -5,6 +5,7 @@ use Rattle.df_core.specs.Within.{IsFlat}
 use Rattle.df_core.specs.declared.flat.Flat.{Flat}
 use Rattle.df_build_cond.specs.Growth.{whole}
 use Rattle.df_build_cond.specs.Made.{AreMade}
+use Rattle.df_build_cond.specs.Orderly.{IsOrderly}
 use Rattle.df_build_elem.specs.Program.{program_on, program_graph}
 
 -- counting the cells of a program is building them: the same but for nodes
@@ -19,3 +20,7 @@ ProgramsHaveArcs = (flat : Flat) → HasArcs (program_graph flat)
 -- the cells of a program within the limits are made as their kinds ask
 abbrev pub ProgramsAreMade : Type 0
 ProgramsAreMade = (flat : Flat) → IsFlat flat → AreMade (program_graph flat)
+
+-- every skeleton has zones
+abbrev pub ProgramsAreOrderly : Type 0
+ProgramsAreOrderly = (flat : Flat) → IsOrderly (program_graph flat)

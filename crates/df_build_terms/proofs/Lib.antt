@@ -3,6 +3,6 @@ pub mod Unwinding
 pub mod Forms
 pub mod Counting
 pub mod Lists
-pub mod Arcs
 pub mod Made
 pub mod Inner
+pub mod Zones

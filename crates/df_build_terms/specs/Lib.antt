@@ -5,5 +5,5 @@ pub mod Seen
 pub mod Parts
 pub mod Rows
 pub mod Counting
-pub mod Within
 pub mod Made
+pub mod InZone

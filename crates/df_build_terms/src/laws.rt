@@ -1,11 +1,11 @@
 //! What follows from the definitions alone: each call does nothing, and its contract is a law.
 ghost use Rattle.df_build_terms.specs.Counting.{TermsCountTheSame};
+ghost use Rattle.df_build_terms.specs.InZone.{TermsStayInZone};
 ghost use Rattle.df_build_terms.specs.Made.{TermsAreMade};
-ghost use Rattle.df_build_terms.specs.Within.{TermsHaveArcs};
 
-use df_build_access::laws::{windows_are_made, windows_count_the_same, windows_have_arcs};
-use df_build_cond::laws::{gates_are_made, gates_count_the_same, gates_have_arcs};
-use df_build_loops::laws::{loops_are_made, loops_count_the_same, loops_have_arcs};
+use df_build_access::laws::{windows_are_made, windows_count_the_same, windows_stay_in_zone};
+use df_build_cond::laws::{gates_are_made, gates_count_the_same, gates_stay_in_zone};
+use df_build_loops::laws::{loops_are_made, loops_count_the_same, loops_stay_in_zone};
 
 /// Where less is kept of nodes, a term is built to the same but for nodes.
 pub fn terms_count_the_same()
@@ -16,20 +16,21 @@ pub fn terms_count_the_same()
     loops_count_the_same();
 }
 
-/// Arcs, what was met in a block, and the value of a term come from cells that are there.
-pub fn terms_have_arcs()
-    ensures { TermsHaveArcs }
-{
-    gates_have_arcs();
-    windows_have_arcs();
-    loops_have_arcs();
-}
-
-/// The cells of a term are made as their kinds ask, where its turns are few and ordinary, and none is an IN or an OUT.
+/// The cells of a term are made as their kinds ask, where its turns are few and ordinary; none is an IN or an OUT.
 pub fn terms_are_made()
     ensures { TermsAreMade }
 {
     gates_are_made();
     windows_are_made();
     loops_are_made();
+}
+
+/// The cells of a term stay in the zone of their block, but for those that have to lie below; arcs, and all that was
+/// met and noted, come from cells that are there.
+pub fn terms_stay_in_zone()
+    ensures { TermsStayInZone }
+{
+    gates_stay_in_zone();
+    windows_stay_in_zone();
+    loops_stay_in_zone();
 }

@@ -4,6 +4,6 @@ use Rattle.df_build_elem.proofs.laws.skeletons_are_well_formed.Goals as goal
 
 pub returns : goal.returns
 returns c =
-    skeletons_are_well_formed c.gates_have_arcs.ensures c.windows_have_arcs.ensures c.loops_have_arcs.ensures c.terms_have_arcs.ensures
+    skeletons_are_well_formed c.gates_stay_in_zone.ensures c.loops_stay_in_zone.ensures c.terms_stay_in_zone.ensures
     c.terms_are_made.ensures c.programs_are_made.ensures
     (laid_short c.gates_are_made.ensures c.loops_are_made.ensures c.terms_are_made.ensures)
