@@ -17,7 +17,7 @@ use Rattle.df_build_cond.specs.Growth as grow
 use Rattle.df_build_cond.specs.Growth.{Stood, node, whole}
 use Rattle.df_build_cond.specs.Gates as gates
 use Rattle.df_build_cond.specs.Gates.{gate_kind}
-use Rattle.df_build_cond.specs.Tables.{Noted, noted}
+use Rattle.df_build_cond.specs.Noted.{Noted, noted}
 use Rattle.df_build_cond.specs.Arms as arms
 use Rattle.df_build_cond.specs.Arms.{Arm, Passed, Crossed}
 use Rattle.df_build_cond.specs.Within.{NodeBelow, ArcsBelow, FlowBelow, ArmBelow, StandsAfter, PassesAfter, CrossesAfter}

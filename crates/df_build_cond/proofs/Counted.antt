@@ -12,7 +12,7 @@ use Rattle.df_build_cond.specs.Growth as grow
 use Rattle.df_build_cond.specs.Growth.{Stood, node}
 use Rattle.df_build_cond.specs.Gates as gates
 use Rattle.df_build_cond.specs.Gates.{gate_kind}
-use Rattle.df_build_cond.specs.Tables.{noted}
+use Rattle.df_build_cond.specs.Noted.{noted}
 use Rattle.df_build_cond.specs.Arms as arms
 use Rattle.df_build_cond.specs.Arms.{Arm, Passed, Crossed}
 use Rattle.df_build_cond.specs.Counting.{over_stood, over_passed, over_crossed}

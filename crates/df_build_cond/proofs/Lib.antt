@@ -1,3 +1,4 @@
+pub mod RisingRows
 pub mod Standing
 pub mod Crossing
 pub mod Lists

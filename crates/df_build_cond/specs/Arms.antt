@@ -4,7 +4,7 @@ use Rattle.df_labels.specs.declared.graphs.Flow.{Flow}
 use Rattle.df_labels.specs.declared.graphs.Flow.TheVariants.{Constant, Cell}
 use Rattle.df_labels.specs.Graphs.{Graph, Node}
 use Rattle.df_build_cond.specs.Gates.{gated}
-use Rattle.df_build_cond.specs.Tables.{Noted, nothing, noted}
+use Rattle.df_build_cond.specs.Noted.{Noted, nothing, noted}
 
 -- an open arm: its control, the control at which it is taken, and the gate of each stream that was met in it
 pub record Arm : Type 0 where

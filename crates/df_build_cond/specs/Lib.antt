@@ -1,5 +1,6 @@
 pub mod Growth
 pub mod Gates
+pub mod Noted
 pub mod Tables
 pub mod Arms
 pub mod OpenArms

@@ -1,21 +1,14 @@
 -- Tables of what was noted, as functions.
-use Rattle.std.specs.Prelude.{ℕ, Option, Some, None, ◌==◌, if◌then◌else◌}
+use Rattle.std.specs.Prelude.{ℕ, Option, Some, None}
 use Rattle.std.specs.Ordering.{nat_cmp}
 use Rattle.std.specs.BTreeMap.{get}
+use Rattle.df_build_cond.specs.Noted.{Noted, entry_in}
 use Rattle.df_build_cond.specs.declared.tables.Table.{Table}
 
--- the cell that is noted at each number
-abbrev pub Noted : Type 0
-Noted = ℕ → Option ℕ
+abbrev pub else_at : Option ℕ → Option ℕ → Option ℕ
+else_at (Some cell) other = Some cell
+else_at None other = other
 
--- where nothing is noted
-abbrev pub nothing : Noted
-nothing = λ _. None
-
--- one entry more
-unfoldable pub noted : Noted → ℕ → ℕ → Noted
-noted table number cell = λ other. if number == other then Some cell else table other
-
--- what is noted at each number in a table
+-- what is noted at each number in a table: in its rows, or else in its map
 unfoldable pub table_of : Table → Noted
-table_of table = λ number. get nat_cmp table.entries number
+table_of table = λ number. else_at (entry_in table.rows number) (get nat_cmp table.others number)

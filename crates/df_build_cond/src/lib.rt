@@ -8,5 +8,6 @@ pub mod arms;
 pub mod gates;
 pub mod kinds;
 pub mod laws;
+mod rows;
 pub mod ruled;
 pub mod tables;

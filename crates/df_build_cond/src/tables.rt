@@ -1,15 +1,20 @@
 //! Ordered maps that contracts see as functions.
 ghost use Rattle.std.specs.Prelude.{◌≡◌, OnOk, OnErr};
-ghost use Rattle.df_build_cond.specs.Tables.{nothing, noted, table_of};
+ghost use Rattle.df_build_cond.specs.Noted.{nothing, noted};
+ghost use Rattle.df_build_cond.specs.Tables.{table_of};
 
+use crate::rows::Rows;
 use df_values::memory::Memory;
 use std::alloc::Global;
 use std::collections::BTreeMap;
 
 /// Numbers of cells by numbers. Contracts see it as `table_of` it, a function.
+///
+/// Numbers that come in rising order, as those of new cells mostly do, stand in rows of 16 bytes an entry; the others in a map.
 #[derive(Drop)]
 pub struct Table {
-    entries: BTreeMap<u64, u64>,
+    rows: Rows,
+    others: BTreeMap<u64, u64>,
 }
 
 impl Table {
@@ -18,7 +23,8 @@ impl Table {
         ensures { table_of result ≡ nothing }
     {
         Table {
-            entries: BTreeMap::new(alloc),
+            rows: Rows::new(alloc),
+            others: BTreeMap::new(alloc),
         }
     }
 
@@ -26,16 +32,23 @@ impl Table {
     pub fn get(&self, number: u64) -> Option<u64>
         ensures { result ≡ table_of self.now number }
     {
-        self.entries.get(&number).copied()
+        match self.rows.get(number) {
+            Some(cell) => Some(cell),
+            None => self.others.get(&number).copied(),
+        }
     }
 
     /// From now on this is noted at the number. A refusal changes nothing; its only cause is want of memory.
-    #[tactic(auto, using(crate::proofs::Standing::same_entries))]
     pub fn note(&mut self, number: u64, cell: u64) -> Result<(), Memory>
         ensures ok { OnOk result (table_of self.new ≡ noted (table_of self.old) number cell) }
         ensures err { OnErr result (table_of self.new ≡ table_of self.old) }
     {
-        self.entries.insert(number, cell)?;
+        if self.rows.are_below(number) {
+            return self.rows.push(number, cell);
+        }
+        if !self.rows.set(number, cell) {
+            self.others.insert(number, cell)?;
+        }
         Ok(())
     }
 }

@@ -4,7 +4,7 @@ use Rattle.std.specs.Prelude.{if◌then◌else◌, slice_get, ◌==◌, ◌&&◌
 use Rattle.std.specs.List.{AllByRecursion}
 use Rattle.std.specs.Ordering.{int_eq}
 use Rattle.df_labels.specs.declared.graphs.Flow.{Flow}
-use Rattle.df_build_cond.specs.Tables.{Noted, noted}
+use Rattle.df_build_cond.specs.Noted.{Noted, noted}
 use Rattle.df_build_access.specs.Accesses.{Accessed, noted_access}
 
 pub all_map : {X : Type 0} (P Q : X → Type 0) → ((x : X) → P x → Q x) → (xs : List X) → AllByRecursion P xs

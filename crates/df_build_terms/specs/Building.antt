@@ -13,7 +13,7 @@ use Rattle.df_labels.specs.declared.graphs.Flow.TheVariants.{Constant, Cell}
 use Rattle.df_build_cond.specs.Arms.{Arm, opened, cross}
 use Rattle.df_build_cond.specs.Gates.{merged}
 use Rattle.df_build_cond.specs.Growth.{Stood, Grown, pushed}
-use Rattle.df_build_cond.specs.Tables.{Noted, nothing, noted}
+use Rattle.df_build_cond.specs.Noted.{Noted, nothing, noted}
 use Rattle.df_build_access.specs.Accesses.{Accessed, no_access, noted_access}
 use Rattle.df_build_access.specs.Elements.{windowed}
 use Rattle.df_build_access.specs.declared.windows.Array.{Array}

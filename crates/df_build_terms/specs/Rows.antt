@@ -12,7 +12,7 @@ use Rattle.df_core.specs.Terms.{Layer}
 use Rattle.df_core.specs.declared.terms.Term.TheOpen.{Term-F}
 use Rattle.df_build_cond.specs.Gates.{ruled}
 use Rattle.df_build_cond.specs.Growth.{node}
-use Rattle.df_build_cond.specs.Tables.{noted}
+use Rattle.df_build_cond.specs.Noted.{noted}
 use Rattle.df_build_access.specs.Accesses.{noted_access}
 use Rattle.df_build_access.specs.Elements.{windowed_by}
 use Rattle.df_build_access.specs.Windows.{window_by}

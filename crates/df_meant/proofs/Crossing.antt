@@ -10,7 +10,7 @@ use Rattle.df_labels.specs.declared.graphs.Flow.{Flow}
 use Rattle.df_labels.specs.declared.graphs.Flow.TheVariants.{Constant, Cell}
 use Rattle.df_build_terms.specs.declared.building.Local.{Local}
 use Rattle.df_labels.specs.Flows.{arc}
-use Rattle.df_build_cond.specs.Tables.{noted}
+use Rattle.df_build_cond.specs.Noted.{noted}
 use Rattle.df_build_cond.specs.Arms.{Arm, Crossed, pass, passed, cross}
 use Rattle.df_build_cond.specs.Gates.{gate_kind as gate}
 use Rattle.df_meant.specs.Sites.{Ends, Label, Site, site_of, Stands, Meeting, Extends}

@@ -22,7 +22,7 @@ use Rattle.df_build_terms.specs.declared.building.Outside.TheVariants as outside
 use Rattle.df_labels.specs.Flows.{arc}
 use Rattle.df_build_loops.specs.Frames.{undef}
 use Rattle.df_build_terms.specs.Outer.{single, many, flow_at, array_at}
-use Rattle.df_build_cond.specs.Tables.{Noted, noted}
+use Rattle.df_build_cond.specs.Noted.{Noted, noted}
 use Rattle.df_build_access.specs.Accesses.{Accessed, noted_access}
 use Rattle.df_build_terms.specs.Building.{Building, Built, Met, at, with_index, with_hold, with_access, crossed, from_local, index_met, index_built, hold_met, outer_met, outer_built, element_met, element_built}
 use Rattle.df_build_cond.specs.Arms.{cross}
