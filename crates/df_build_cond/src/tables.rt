@@ -10,7 +10,8 @@ use std::collections::BTreeMap;
 
 /// Numbers of cells by numbers. Contracts see it as `table_of` it, a function.
 ///
-/// Numbers that come in rising order, as those of new cells mostly do, stand in rows of 16 bytes an entry; the others in a map.
+/// Numbers that come in rising order, as those of new cells mostly do, stand in rows of 16 bytes an entry; the others
+/// in a map.
 #[derive(Drop)]
 pub struct Table {
     rows: Rows,
