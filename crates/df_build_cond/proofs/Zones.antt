@@ -9,7 +9,7 @@ use Rattle.df_cells.specs.declared.kinds.Kind.TheVariants as kind
 use Rattle.df_cells.specs.declared.kinds.Run.{Run}
 use Rattle.df_cells.specs.Cells.{cell_from}
 use Rattle.df_cells.specs.Families.{family}
-use Rattle.df_cells.specs.Shifts.{control_values, gate_place, merge_place, is_truth}
+use Rattle.df_cells.specs.Shifts.{control_values, gate_place, merge_place}
 use Rattle.df_labels.specs.declared.graphs.Flow.{Flow}
 use Rattle.df_labels.specs.declared.graphs.Flow.TheVariants.{Constant, Cell}
 use Rattle.df_labels.specs.Graphs.{Graph, Node, HasArcs, node_at, no_node}
@@ -22,7 +22,7 @@ use Rattle.df_build_cond.specs.Arms.{Arm}
 use Rattle.df_build_cond.specs.Within.{ArcsBelow, FlowBelow, ArmBelow}
 use Rattle.df_build_cond.specs.Laws.{GatesAreOrderly}
 use Rattle.df_build_cond.proofs.Arcs.{node_below, port_below, arm_more, cross_after, next}
-use Rattle.df_build_cond.specs.Orderly.{zone_at, controls_by, controls_in, gate_in, side_in, StaysIn, KeepsZone, IsOrderly, ZonesExtend}
+use Rattle.df_build_cond.specs.Orderly.{zone_at, controls_by, controls_in, gate_in, side_in, AreNeverFalse, StaysIn, KeepsZone, IsOrderly, ZonesExtend}
 
 -- ---- old cells in a longer graph
 
@@ -54,7 +54,7 @@ old_stays : (g new : Graph) → HasArcs g → (c p u : ℕ) → c < length g →
 old_stays g new there c p u less below (inl f) = inl (old_gate g new there u below ∙ f.0, old_side g new there c p less ∙ f.1, f.2)
 old_stays g new there c p u less below (inr (inl f)) = inr (inl (old_gate g new there u below ∙ f.0, old_side g new there c p less ∙ f.1, f.2))
 old_stays g new there c p u less below (inr (inr f)) =
-    inr (inr (f.0, f.1, subst (AllByRecursion (λ v. is_truth false v ≡ false)) (sym (old_controls g new there c less)) f.2))
+    inr (inr (f.0, f.1, subst AreNeverFalse (sym (old_controls g new there c less)) f.2))
 
 -- ---- a graph with more cells
 

@@ -29,13 +29,17 @@ gate_in graph u = gate_place (family (node_at graph u).kind) (controls_in graph 
 abbrev pub side_in : Graph → ℕ → ℕ → ℕ
 side_in graph c p = merge_place (family (node_at graph c).kind) p (controls_in graph c)
 
+-- there are controls, and none of them is false
+abbrev pub AreNeverFalse : List Value → Type 0
+AreNeverFalse controls = (0 < length controls) × AllByRecursion (λ v. is_truth false v ≡ false) controls
+
 -- the arc within a zone from u to port p of c: forward without shift, back with shift 1, or back where no control is
 -- false
 abbrev pub StaysIn : Graph → ℕ → ℕ → ℕ → Type 0
 StaysIn graph c p u =
     ((gate_in graph u ≡ 0) × (side_in graph c p ≡ 0) × (u < c))
     ⊎ (((gate_in graph u ≡ 0) × (side_in graph c p ≡ 1) × (c < u))
-    ⊎ ((p ≡ 2) × (c < u) × AllByRecursion (λ v. is_truth false v ≡ false) (controls_in graph c)))
+    ⊎ ((p ≡ 2) × (c < u) × AreNeverFalse (controls_in graph c)))
 
 abbrev pub KeepsZone : Graph → List ℕ → ℕ → ℕ → ℕ → Type 0
 KeepsZone graph zones c p u =

@@ -1,16 +1,15 @@
 -- Zones of a graph are zones of its cells, where none is a BUF.
 use Rattle.std.proofs.Common.{◌≡◌, ◌<◌, ℕ, Bool, false, zero, suc, List, length, Option, Some, None, refl, sym, ap, subst, ◌∙◌, inl, inr}
 use Rattle.std.proofs.lemmas.List.{length-map}
-use Rattle.std.specs.List.{AllByRecursion}
 use Rattle.std.specs.Prelude.{slice_get, cond}
 use Rattle.df_cells.specs.Cells.{cell_at, cell_from, is_buf, port_of, producer_of}
 use Rattle.df_cells.specs.Families.{family}
-use Rattle.df_cells.specs.Shifts.{back, back_over, cell_or, origin, control_values, controls, controls_from, gate_place, merge_place, gate_part, merge_part, is_truth}
+use Rattle.df_cells.specs.Shifts.{back, back_over, cell_or, origin, control_values, controls, controls_from, gate_place, merge_place, gate_part, merge_part}
 use Rattle.df_cells.specs.declared.cells.Cell.{Cell}
 use Rattle.df_cells.specs.declared.cells.CellId.{CellId}
 use Rattle.df_labels.specs.Graphs.{Node, node_at, node_of, graph_of}
 use Rattle.df_build_cond.specs.Made.{AreMade}
-use Rattle.df_build_cond.specs.Orderly.{zone_at, controls_by, controls_in, gate_in, side_in, StaysIn, Orderly}
+use Rattle.df_build_cond.specs.Orderly.{zone_at, controls_by, controls_in, gate_in, side_in, AreNeverFalse, StaysIn, Orderly}
 use Rattle.df_build_elem.specs.Finished.{StaysWithin, AreInZones, SkeletonsHaveZones}
 use Rattle.df_build_elem.specs.Laws.{ProgramsAreMade, ProgramsAreOrderly}
 use Rattle.df_build_elem.proofs.Finished.{same_node, plain}
@@ -54,7 +53,7 @@ module _ (cells : List Cell) (no_buf : (c : ℕ) → c < length cells → is_buf
     same_stays : (c p u : ℕ) → StaysIn (graph_of cells) c p u → StaysWithin cells (port_of c p) u
     same_stays c p u (inl f) = inl (sym (same_gate u) ∙ f.0, sym (same_side c p) ∙ f.1, f.2)
     same_stays c p u (inr (inl f)) = inr (inl (sym (same_gate u) ∙ f.0, sym (same_side c p) ∙ f.1, f.2))
-    same_stays c p u (inr (inr f)) = inr (inr (f.0, f.1, subst (AllByRecursion (λ v. is_truth false v ≡ false)) (same_controls c) f.2))
+    same_stays c p u (inr (inr f)) = inr (inr (f.0, f.1, subst AreNeverFalse (same_controls c) f.2))
 
 in_graph : (cells : List Cell) (c p : ℕ) (u : CellId) → producer_of cells (port_of c p) ≡ Some u
     → cell_from (slice_get (node_at (graph_of cells) c).ports p) ≡ Some u

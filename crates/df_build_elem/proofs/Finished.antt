@@ -7,7 +7,7 @@ use Rattle.std.specs.Prelude.{All, bytes_eq, slice_get}
 use Rattle.df_values.specs.declared.inputs.Input.{Input}
 use Rattle.df_values.specs.declared.values.Basic.{Basic}
 use Rattle.df_values.specs.declared.values.Value.{Value}
-use Rattle.df_cells.specs.Cells.{cell_at, cell_from, declared_by, inputs_of, is_buf, outputs_before, producer_of, IsCell}
+use Rattle.df_cells.specs.Cells.{cell_at, cell_from, declared_by, inputs_of, is_buf, outputs, outputs_before, producer_of, IsCell}
 use Rattle.df_cells.specs.Kinds.{is_output}
 use Rattle.df_cells.specs.WellFormed.{WaitsForOperands, LoadsLoops, ListsItsArcs, WellFormed, outer_length, outer_values, number_or_none}
 use Rattle.df_cells.specs.declared.cells.Cell.{Cell}
@@ -26,10 +26,10 @@ use Rattle.df_build_terms.specs.InZone.{TermsStayInZone}
 use Rattle.df_build_terms.specs.Made.{kinds_of, TermsAreMade}
 use Rattle.df_build_elem.specs.Finished.{IsFinished, SkeletonsAreWellFormed}
 use Rattle.df_build_elem.specs.Laws.{ProgramsAreMade}
-use Rattle.df_build_elem.specs.Program.{declared_input, declared_inputs, laid, result_more, program_on, program_graph}
-use Rattle.df_build_elem.proofs.Ends.{HasEnds, IsShortEnd, IsNext, AreNumbered}
+use Rattle.df_build_elem.specs.Program.{Shown, declared_input, declared_inputs, laid, result_more, program_on, program_graph}
+use Rattle.df_build_elem.proofs.Ends.{HasEnds, IsShortEnd, outputs_in, IsNext, AreNumbered}
 use Rattle.df_build_elem.proofs.Made.{IsLaidShort}
-use Rattle.df_build_elem.proofs.Results.{laid_ends, results_ends}
+use Rattle.df_build_elem.proofs.Results.{laid_ends, results_counted, results_ends}
 use Rattle.df_build_elem.proofs.Senders.{ComeFromSenders, results_sent}
 use Rattle.df_build_elem.proofs.Zones.{laid_zones}
 
@@ -110,8 +110,17 @@ own_names (cell ∷ cells) d (suc b) (suc c) m n name other basic of before is i
 
 -- ---- outputs
 
+abbrev one_of : Kind → ℕ
+one_of it = cond (is_output it) 1 0
+
 abbrev one_if : Cell → ℕ
-one_if cell = cond (is_output cell.kind) 1 0
+one_if cell = one_of cell.kind
+
+outputs_are : (cells : List Cell) → outputs_in (map (λ (cell : Cell). cell.kind) cells) ≡ outputs cells
+outputs_are [] = refl
+outputs_are (cell ∷ cells) =
+    sum_by-cons one_of cell.kind (map (λ (cell : Cell). cell.kind) cells)
+    ∙ (ap (λ n. one_if cell + n) (outputs_are cells) ∙ sym (sum_by-cons one_if cell cells))
 
 numbers : (n : ℕ) (cells : List Cell) → AreNumbered n (map (λ (cell : Cell). cell.kind) cells) → (c k m : ℕ)
     → (cell_at cells c).kind ≡ kind.Out k m
@@ -184,10 +193,13 @@ no_dests cells come c lists is = go (cell_at cells c).dests refl
         absurd (apart (sym (sym (ap (λ (n : Node). is_output n.kind) (same_node cells c)) ∙ s.inner) ∙ is))
 
 abbrev EndsOf : Flat → List Cell → Type 0
-EndsOf flat cells = (count : ℕ) × HasEnds (declared_inputs flat) count (kinds_of (graph_of cells))
+EndsOf flat cells = HasEnds (declared_inputs flat) (length flat.results) (kinds_of (graph_of cells))
 
 inputs_declared : (flat : Flat) (cells : List Cell) → EndsOf flat cells → inputs_of cells ≡ declared_inputs flat
-inputs_declared flat cells ends = let e = ends.1 in sym (inputs_are cells) ∙ (sym (ap (filter_map declared_by) (kinds_are cells)) ∙ e.inputs)
+inputs_declared flat cells ends = sym (inputs_are cells) ∙ (sym (ap (filter_map declared_by) (kinds_are cells)) ∙ ends.inputs)
+
+outputs_counted : (flat : Flat) (cells : List Cell) → EndsOf flat cells → outputs cells ≡ length flat.results
+outputs_counted flat cells ends = sym (outputs_are cells) ∙ (sym (ap outputs_in (kinds_are cells)) ∙ ends.count)
 
 names_declared : (is : List Input) → names (map declared_input is) ≡ map (λ (i : Input). i.name) is
 names_declared [] = refl
@@ -196,10 +208,9 @@ names_declared (i ∷ is) = ap (λ l. i.name ∷ l) (names_declared is)
 well_formed : (flat : Flat) (cells : List Cell) → IsFlat flat → IsFinished flat cells → length cells ≤ 4096
     → AreMade (graph_of cells) → ComeFromSenders (graph_of cells)
     → EndsOf flat cells → WellFormed cells
-well_formed flat cells is f few made come both =
-    let ends = both.1 in
+well_formed flat cells is f few made come ends =
     let kinds = kinds_are cells in
-    let same = sym (ap names (inputs_declared flat cells both)) in
+    let same = sym (ap names (inputs_declared flat cells ends)) in
     let own = subst (IsDistinct bytes_eq) (sym (names_declared flat.parameters) ∙ same) is.differ in
     let numbered = subst (AreNumbered 0) kinds ends.numbered in
     let short = subst (AllByRecursion IsShortEnd) kinds ends.short in
@@ -231,13 +242,17 @@ well_formed flat cells is f few made come both =
 module _ (gates : GatesStayInZone) (loops : LoopsStayInZone) (terms : TermsStayInZone) (made_terms : TermsAreMade) (made : ProgramsAreMade)
     (short : (flat : Flat) → IsFlat flat → IsLaidShort (laid whole flat [])) where
   skeleton_ends : (flat : Flat) → IsFlat flat
-      → (count : ℕ) × HasEnds (declared_inputs flat) count (kinds_of (program_graph flat))
+      → HasEnds (declared_inputs flat) (length flat.results) (kinds_of (program_graph flat))
   unfolding program_on
   skeleton_ends flat is =
       let l = laid whole flat [] in
-      let s = fold (result_more whole l.outer) (record { graph = l.graph; count = 0 }) flat.results in
+      let start : Shown = record { graph = l.graph; count = 0 } in
+      let s = fold (result_more whole l.outer) start flat.results in
       let all = short flat is in
-      (s.count, results_ends (declared_inputs flat) l.outer all.outer flat.results (record { graph = l.graph; count = 0 }) (laid_ends made_terms flat is))
+      let counted = results_counted l.outer flat.results start in
+      let count : s.count ≡ length flat.results = omega (arith, counted) in
+      subst (λ n. HasEnds (declared_inputs flat) n (kinds_of s.graph)) count
+      (results_ends (declared_inputs flat) l.outer all.outer flat.results start (laid_ends made_terms flat is))
 
   skeleton_sent : (flat : Flat) → IsFlat flat → ComeFromSenders (program_graph flat)
   unfolding program_on
@@ -252,9 +267,9 @@ module _ (gates : GatesStayInZone) (loops : LoopsStayInZone) (terms : TermsStayI
         well_formed flat cells is f few (subst AreMade (sym f.graph) (made flat is)) (subst ComeFromSenders (sym f.graph) (skeleton_sent flat is)) (ends flat cells is f.graph);
     plain = λ flat cells is same. plain cells (subst AreMade (sym same) (made flat is));
     inputs = λ flat cells is same. inputs_declared flat cells (ends flat cells is same);
+    outputs = λ flat cells is same. outputs_counted flat cells (ends flat cells is same);
   }
     where
       ends : (flat : Flat) (cells : List Cell) → IsFlat flat → graph_of cells ≡ program_graph flat → EndsOf flat cells
       ends flat cells is same =
-          let e = skeleton_ends flat is in
-          (e.0, subst (λ g. HasEnds (declared_inputs flat) e.0 (kinds_of g)) (sym same) e.1)
+          subst (λ g. HasEnds (declared_inputs flat) (length flat.results) (kinds_of g)) (sym same) (skeleton_ends flat is)

@@ -1,5 +1,5 @@
 -- The inputs and outputs of a whole skeleton, and that nothing takes from an output.
-use Rattle.std.proofs.Common.{◌≡◌, ◌≤◌, ◌+◌, ℕ, List, [], ◌∷◌, ◌++◌, map, fold, Option, Some, None, refl, sym, subst, arith}
+use Rattle.std.proofs.Common.{◌≡◌, ◌≤◌, ◌+◌, ℕ, List, [], ◌∷◌, ◌++◌, map, fold, length, Option, Some, None, refl, sym, subst, arith}
 use Rattle.std.proofs.lemmas.List.{map-append, append-nil, append_assoc}
 use Rattle.std.specs.List.{AllByRecursion}
 use Rattle.std.specs.Prelude.{slice_get}
@@ -75,6 +75,14 @@ results_ends ds outer short [] s ends = ends
 results_ends ds outer short (x ∷ numbers) s ends =
     results_ends ds outer short numbers (result_more whole outer s x)
     (result_ends ds s.count s.graph (slice_get outer x) (λ p is. all_get IsShort outer x p short is) ends)
+
+-- there are as many outputs as results
+pub results_counted : (outer : List Outside) (numbers : List ℕ) (s : Shown)
+    → (fold (result_more whole outer) s numbers).count ≡ s.count + length numbers
+results_counted outer [] s = omega arith
+results_counted outer (x ∷ numbers) s =
+    let rest : (fold (result_more whole outer) s (x ∷ numbers)).count ≡ s.count + 1 + length numbers = results_counted outer numbers (result_more whole outer s x) in
+    omega (arith, rest)
 
 module _ (terms : TermsAreMade) where
   block_ends : (ds : List InputDecl) (l : Laid) (b : Block) → HasEnds ds 0 (kinds_of l.graph)

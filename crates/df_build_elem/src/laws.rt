@@ -40,8 +40,8 @@ pub fn programs_have_arcs()
     programs_are_orderly();
 }
 
-/// Finished cells of a skeleton of at most 4,096 cells are well-formed; no cell is a BUF, and the inputs are the
-/// parameters.
+/// Finished cells of a skeleton of at most 4,096 cells are well-formed; no cell is a BUF, the inputs are the
+/// parameters, and there are as many outputs as results.
 pub fn skeletons_are_well_formed()
     ensures { SkeletonsAreWellFormed }
 {

@@ -1,7 +1,6 @@
 -- A loop that is closed: the MERGE is fed from its own zone, one turn later.
 use Rattle.std.proofs.Common.{◌≡◌, ◌≢◌, ◌⊎◌, ◌<◌, ◌+◌, ℕ, zero, suc, Bool, true, false, List, [], ◌∷◌, length, set, Option, Some, None, refl, sym, subst, ap, inl, inr, arith, ◌∙◌}
 use Rattle.std.specs.Prelude.{slice_get, ◌==◌}
-use Rattle.std.specs.List.{AllByRecursion}
 use Rattle.std.proofs.lemmas.List.{get_or-set_same, get_or-set_other}
 use Rattle.df_cells.specs.declared.cells.CellId.{CellId}
 use Rattle.df_cells.specs.declared.cells.Feed.{Feed}
@@ -10,13 +9,13 @@ use Rattle.df_cells.specs.declared.kinds.Kind.TheVariants as kind
 use Rattle.df_cells.specs.Cells.{from_cell, cell_from}
 use Rattle.df_cells.specs.Families.{family}
 use Rattle.df_cells.specs.Kinds.{run_values}
-use Rattle.df_cells.specs.Shifts.{control_values, first_truth, gate_place, merge_place, is_truth}
+use Rattle.df_cells.specs.Shifts.{control_values, first_truth, gate_place, merge_place}
 use Rattle.df_labels.specs.declared.graphs.Flow.{Flow}
 use Rattle.df_labels.specs.declared.graphs.Flow.TheVariants.{Constant, Cell}
 use Rattle.df_labels.specs.Flows.{feed_of}
 use Rattle.df_labels.specs.Graphs.{Graph, Node, node_at, no_node}
 use Rattle.df_labels.specs.Patterns.{pattern}
-use Rattle.df_build_cond.specs.Orderly.{controls_by, controls_in, gate_in, side_in, StaysIn, KeepsZone, Orderly}
+use Rattle.df_build_cond.specs.Orderly.{controls_by, controls_in, gate_in, side_in, AreNeverFalse, StaysIn, KeepsZone, Orderly}
 use Rattle.df_build_cond.specs.InZone.{Suits, FlowSuits, KeepsCells}
 use Rattle.df_build_loops.specs.Frames.{closed}
 use Rattle.df_build_loops.specs.Laws.{IsOpen}
@@ -110,7 +109,7 @@ module _ (g : Graph) (merge : ℕ) (next : Flow) (there : merge < length g) wher
   still_stays : (c p u : ℕ) → StaysIn g c p u → StaysIn h c p u
   still_stays c p u (inl f) = inl (same_gate u ∙ f.0, same_side c p ∙ f.1, f.2)
   still_stays c p u (inr (inl f)) = inr (inl (same_gate u ∙ f.0, same_side c p ∙ f.1, f.2))
-  still_stays c p u (inr (inr f)) = inr (inr (f.0, f.1, subst (AllByRecursion (λ v. is_truth false v ≡ false)) (sym (same_controls c)) f.2))
+  still_stays c p u (inr (inr f)) = inr (inr (f.0, f.1, subst AreNeverFalse (sym (same_controls c)) f.2))
 
   -- an arc was there, or is the new one
   arc_is : (c p : ℕ) (u : CellId) → cell_from (slice_get (node_at h c).ports p) ≡ Some u
@@ -141,8 +140,8 @@ fed_by g zones z first (Cell c) u s is = subst (Suits g zones z first) (sym (the
 
 -- the place of the first false in 1*true n*false, or there is none
 side_or_never : (n : ℕ) → (first_truth false (run_values (pattern ((1, true) ∷ (n, false) ∷ []))) ≡ 1)
-    ⊎ AllByRecursion (λ v. is_truth false v ≡ false) (run_values (pattern ((1, true) ∷ (n, false) ∷ [])))
-side_or_never zero = inr (refl, tt)
+    ⊎ AreNeverFalse (run_values (pattern ((1, true) ∷ (n, false) ∷ [])))
+side_or_never zero = inr (omega arith, (refl, tt))
 side_or_never (suc n) = inl refl
 
 pub closed_in : (g : Graph) (merge : ℕ) (next : Flow) (zones : List ℕ) (z n : ℕ) → Orderly zones g → IsOpen g zones z n merge → FlowSuits g zones z (merge + 1) next
@@ -183,7 +182,7 @@ closed_in g merge next zones z n o opens suits = (
         both.0 ∙ sym opens.zone,
         elim (side_or_never n) [
           | inl one ↦ inr (inl (same_gate g merge next opens.there u.0 ∙ both.1, side ∙ one, after))
-          | inr never ↦ inr (inr (refl, after, subst (AllByRecursion (λ v. is_truth false v ≡ false)) (sym controls) never))
+          | inr never ↦ inr (inr (refl, after, subst AreNeverFalse (sym controls) never))
         ],
       ))
     ]

@@ -1,0 +1,4 @@
+pub mod Untaken
+pub mod Placed
+pub mod Outputs
+pub mod Realize
