@@ -93,11 +93,22 @@ rows_behind numbers cells n c rows below = record {
     at_end : get_or (numbers ++ n ∷ []) (length numbers) 0 ≡ n
     at_end = let first : length numbers - length numbers ≡ 0 = omega arith in
         get_or-append_right numbers (n ∷ []) (length numbers) (length numbers) 0 refl (omega arith) ∙ ap (λ i. get_or (n ∷ []) i 0) first
+
     rise : (i j : ℕ) → i < j → j < length (numbers ++ n ∷ []) → get_or (numbers ++ n ∷ []) i 0 < get_or (numbers ++ n ∷ []) j 0
     rise i j lt within =
         let first : get_or (numbers ++ n ∷ []) i 0 ≡ get_or numbers i 0 = get_or_append_left numbers (n ∷ []) 0 i (omega (arith, lt, within, length-append numbers (n ∷ []))) in
-        grind (arith, first, at_end, lt, within, length-append numbers (n ∷ []), rows.rise i j, below i, λ (h : j < length numbers). get_or_append_left numbers (n ∷ []) 0 j h,
-        λ (h : j ≡ length numbers). ap (λ k. get_or (numbers ++ n ∷ []) k 0) h)
+        grind (
+          arith,
+          first,
+          at_end,
+          lt,
+          within,
+          length-append numbers (n ∷ []),
+          rows.rise i j,
+          below i,
+          λ (h : j < length numbers). get_or_append_left numbers (n ∷ []) 0 j h,
+          λ (h : j ≡ length numbers). ap (λ k. get_or (numbers ++ n ∷ []) k 0) h,
+        )
 
 pub rows_set : (numbers cells : List ℕ) (i c : ℕ) → AreRows numbers cells → AreRows numbers (set cells i c)
 rows_set numbers cells i c rows = record { each = length-set cells i c ∙ rows.each; rise = rows.rise }
@@ -112,8 +123,11 @@ none≢some a is = cc
 
 pub each_below : (numbers cells : List ℕ) (n : ℕ) → AreRows numbers cells → AreBelow n (entry_in (zip numbers cells))
     → (i : ℕ) → i < length numbers → get_or numbers i 0 < n
-each_below numbers cells n rows below i lt = grind (arith, λ (le : n ≤ get_or numbers i 0).
-    none≢some (get_or cells i 0) (sym (below (get_or numbers i 0) le) ∙ found_at numbers cells i (get_or numbers i 0) rows lt refl))
+each_below numbers cells n rows below i lt = grind (
+  arith,
+  λ (le : n ≤ get_or numbers i 0).
+      none≢some (get_or cells i 0) (sym (below (get_or numbers i 0) le) ∙ found_at numbers cells i (get_or numbers i 0) rows lt refl),
+)
 
 -- the last of rising numbers is the greatest
 pub last_greatest : (numbers cells : List ℕ) (n : ℕ) → AreRows numbers cells → get_or numbers (length numbers - 1) 0 < n
@@ -177,6 +191,7 @@ seen_above seen numbers cells slice n last rows is same there = on (nat_lt last 
   where
     at : slice_get numbers (length numbers - 1) ≡ Some last
     at = subst (λ (l : List ℕ). slice_get l (length l - 1) ≡ Some last) same there
+
     on : (b : Bool) → nat_lt last n ≡ b → OnTrue b (AreBelow n (entry_in seen))
     on false other = tt
     on true less =
