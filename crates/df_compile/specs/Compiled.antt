@@ -5,10 +5,12 @@ use Rattle.df_cells.specs.Cells.{inputs_of}
 use Rattle.df_cells.specs.WellFormed.{WellFormed}
 use Rattle.df_stages.specs.Balance.{IsBalanced, IsLeast, IsCertificate}
 use Rattle.df_labels.specs.Graphs.{graph_of}
+use Rattle.df_labels.specs.Realizes.{Realizes}
 use Rattle.df_buffers_laws.specs.HasSkeleton.{HasSkeleton}
 use Rattle.df_buffers_laws.specs.Buffered.{HasNoBuffers}
 use Rattle.df_buffers_laws.specs.Staged.{HasLowestStage}
 use Rattle.df_core.specs.declared.flat.Flat.{Flat}
+use Rattle.df_core.specs.Meaning.{flat_mean}
 use Rattle.df_build_elem.specs.Program.{program_graph, census, declared_inputs}
 use Rattle.df_compile.specs.Placed.{IsOver}
 use Rattle.df_compile.specs.declared.compile.CompileAnswer.{CompileAnswer}
@@ -18,7 +20,8 @@ use Rattle.df_compile.specs.declared.compile.CompileAnswer.TheVariants.{TooManyS
 abbrev pub most_skeleton_cells : ℕ
 most_skeleton_cells = 4096
 
--- The cells have the skeleton of the program, are balanced with least buffers from stage 0 on, and the flow certifies them.
+-- The cells have the skeleton of the program and realize what it means; they are balanced with least buffers from stage 0 on, and the
+-- flow certifies them.
 pub record IsCompiledFrom (flat : Flat) (cells : List Cell) (flow : List ℕ) : Type 0 where
   pub skeleton : HasSkeleton cells (program_graph flat)
   pub well_formed : WellFormed cells
@@ -27,6 +30,7 @@ pub record IsCompiledFrom (flat : Flat) (cells : List Cell) (flow : List ℕ) : 
   pub least : IsLeast cells
   pub lowest : HasLowestStage cells
   pub certificate : IsCertificate cells flow
+  pub realizes : Realizes cells (flat_mean flat)
 
 -- However the skeleton of the program is numbered, its cells and the BUF cells that this wants are too many.
 pub record IsOverfull (flat : Flat) : Type 0 where

@@ -7,6 +7,7 @@ use Rattle.df_stages.specs.Balance.{IsBalanced, IsLeast, IsCertificate}
 use Rattle.df_stages.specs.Flows.{Respects, total_excess}
 use Rattle.df_stages.specs.Skeletons.{arcs}
 use Rattle.df_labels.specs.Graphs.{graph_of}
+use Rattle.df_labels.specs.Realizes.{Meaning, Realizes}
 use Rattle.df_buffers_laws.specs.HasSkeleton.{HasSkeleton}
 use Rattle.df_buffers_laws.specs.Staged.{HasLowestStage}
 
@@ -14,7 +15,8 @@ use Rattle.df_buffers_laws.specs.Staged.{HasLowestStage}
 abbrev pub most_cells : ℕ
 most_cells = 65_536
 
--- The new cells are the old ones with BUF cells: balanced, with least buffers, from stage 0 on; and the flow certifies them.
+-- The new cells are the old ones with BUF cells: balanced, with least buffers, from stage 0 on; the flow certifies them; and they
+-- realize what the old ones do.
 pub record IsFilled (old new : List Cell) (flow : List ℕ) : Type 0 where
   pub skeleton : HasSkeleton new (graph_of old)
   pub well_formed : WellFormed new
@@ -23,6 +25,7 @@ pub record IsFilled (old new : List Cell) (flow : List ℕ) : Type 0 where
   pub least : IsLeast new
   pub lowest : HasLowestStage new
   pub certificate : IsCertificate new flow
+  pub realized : (meaning : Meaning) → Realizes old meaning → Realizes new meaning
 
 -- however the nodes are numbered, the cells and the BUF cells that this wants are too many
 abbrev pub IsOver : List Cell → Type 0

@@ -2,8 +2,10 @@
 ghost use Rattle.std.specs.Prelude.{◌≡◌, ◌≢◌, ◌≤◌, length, IfOk, IfErr};
 ghost use Rattle.df_cells.specs.Cells.{inputs_of};
 ghost use Rattle.df_cells.specs.WellFormed.{WellFormed};
+ghost use Rattle.df_core.specs.Meaning.{flat_mean};
 ghost use Rattle.df_core.specs.Within.{IsFlat};
 ghost use Rattle.df_labels.specs.Graphs.{graph_of};
+ghost use Rattle.df_labels.specs.Realizes.{Realizes};
 ghost use Rattle.df_stages.specs.Skeletons.{skeleton_of};
 ghost use Rattle.df_build_elem.specs.Program.{program_graph, declared_inputs};
 ghost use Rattle.df_buffers_laws.specs.Buffered.{HasNoBuffers};
@@ -17,6 +19,7 @@ use df_cancel::balancer::{Balance, Balancer};
 use df_cancel::cancel::Cancel;
 use df_cells::cells::Cells;
 use df_core::flat::Flat;
+use df_realize::laws::skeletons_realize;
 use df_stages::building::skeleton;
 use df_stages::laws::{has_skeletons, is_weakly_dual};
 use df_stages::skeleton::Skeleton;
@@ -63,7 +66,7 @@ struct Filled {
     balance: Balance,
 }
 
-// The skeleton of a program.
+// The skeleton of a program, which realizes what the program means.
 fn built(alloc: Global, flat: &Flat) -> Result<Cells, CompileAnswer>
     requires flat { IsFlat flat.now }
     requires results { length flat.now.results ≤ 4294967295 }
@@ -72,8 +75,10 @@ fn built(alloc: Global, flat: &Flat) -> Result<Cells, CompileAnswer>
     ensures plain { IfOk result HasNoBuffers }
     ensures inputs { IfOk result (λ cells. inputs_of cells ≡ declared_inputs flat.now) }
     ensures few { IfOk result (λ cells. length cells ≤ 4096) }
+    ensures realizes { IfOk result (λ cells. Realizes cells (flat_mean flat.now)) }
     ensures refused { IfErr result (λ answer. (answer ≢ CompileAnswer.TooManyCells) × IsRefused flat.now answer) }
 {
+    skeletons_realize();
     match build(alloc, flat) {
         Ok(cells) => Ok(cells),
         Err(BuildAnswer::TooManySkeletonCells(n)) => Err(CompileAnswer::TooManySkeletonCells(n)),
@@ -102,8 +107,10 @@ fn fill(alloc: Global, cells: Cells) -> Result<Filled, CompileAnswer>
 }
 
 /// The cells of a flat program: its skeleton with BUF cells, balanced, with no more BUF cells than any balanced placement has, from
-/// stage 0 on. The flow of the balance certifies that. It is refused exactly where the skeleton has more than 4,096 cells, or where
-/// cells and BUF cells are more than 65,536 however they are placed.
+/// stage 0 on. The flow of the balance certifies that. The cells realize what the program means: there are as many outputs as
+/// results, and for all valid inputs labels say what each cell takes and answers, by which each OUT takes the whole of its result.
+/// It is refused exactly where the skeleton has more than 4,096 cells, or where cells and BUF cells are more than 65,536 however they
+/// are placed.
 pub fn compile(alloc: Global, flat: &Flat) -> Result<Compiled, CompileAnswer>
     requires flat { IsFlat flat.now }
     requires results { length flat.now.results ≤ 4294967295 }

@@ -15,9 +15,11 @@ declared_same : (parameters : List Input) → map declaration_of (map declared_i
 declared_same [] = refl
 declared_same (p ∷ parameters) = ap (λ l. declaration_of (declared_input p) ∷ l) (declared_same parameters)
 
-pub declarations_are : (flat : Flat) (cells : List Cell) → inputs_of cells ≡ declared_inputs flat → declarations cells ≡ declared flat.parameters
+pub declarations_are : (flat : Flat) (cells : List Cell) → inputs_of cells ≡ declared_inputs flat
+    → declarations cells ≡ declared flat.parameters
 declarations_are flat cells same = ap (map declaration_of) same ∙ declared_same flat.parameters
 
-pub outputs_are : (flat : Flat) (cells : List Cell) (inputs : List (List Value)) → outputs cells ≡ length flat.results → outputs cells ≡ length (flat_mean flat inputs)
+pub outputs_are : (flat : Flat) (cells : List Cell) (inputs : List (List Value)) → outputs cells ≡ length flat.results
+    → outputs cells ≡ length (flat_mean flat inputs)
 unfolding flat_mean
 outputs_are flat cells inputs count = count ∙ sym (length-map flat.results (result_of (all_made flat inputs)))

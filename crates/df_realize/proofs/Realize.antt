@@ -19,18 +19,22 @@ use Rattle.df_realize.specs.Laws.{SkeletonsRealize}
 use Rattle.df_realize.proofs.Outputs.{declarations_are, outputs_are}
 use Rattle.df_realize.proofs.Placed.{places}
 
-module _ (skeletons : SkeletonsAreWellFormed) (zoned : SkeletonsHaveZones) (obeys : ObeysKinds) (tell : SkeletonsTell) (lengths : ValidInputsHaveLengths) (give : ZonesGivePlaces) where
+module _ (skeletons : SkeletonsAreWellFormed) (zoned : SkeletonsHaveZones) (obeys : ObeysKinds) (tell : SkeletonsTell)
+    (lengths : ValidInputsHaveLengths) (give : ZonesGivePlaces) where
   tells : (flat : Flat) (cells : List Cell) → IsFlat flat → graph_of cells ≡ program_graph flat → WellFormed cells
       → (inputs : List (List Value)) → AreValid (declarations cells) inputs → Tells cells inputs (flat_mean flat inputs)
   tells flat cells is same well_formed inputs valid =
-      let fits = subst (λ ds. AreValid ds inputs) (declarations_are flat cells (skeletons.inputs flat cells is same)) valid in
+      let declares = declarations_are flat cells (skeletons.inputs flat cells is same) in
+      let fits = subst (λ ds. AreValid ds inputs) declares valid in
       let told = tell flat cells inputs (lengths flat.parameters inputs fits) same in
       let zones = zoned flat cells is same in
       record {
         labels = told.labels;
         meet = told.meet;
         whole = told.whole;
-        placed = places cells well_formed (skeletons.plain flat cells is same) inputs valid told.labels told.meet obeys give zones.0 zones.1;
+        placed =
+            places cells well_formed (skeletons.plain flat cells is same) inputs valid told.labels told.meet obeys
+            give zones.0 zones.1;
       }
 
   pub skeletons_realize : SkeletonsRealize

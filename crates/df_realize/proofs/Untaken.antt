@@ -57,10 +57,12 @@ and_false : (b : Bool) → (b && false) ≡ false
 and_false true = refl
 and_false false = refl
 
-received_more : (p : ℕ) (f : Firing) (label : List Firing) → stream_values (received p (f ∷ label)) ≡ listed (get_or f.taken p None) ++ stream_values (received p label)
+received_more : (p : ℕ) (f : Firing) (label : List Firing)
+    → stream_values (received p (f ∷ label)) ≡ listed (get_or f.taken p None) ++ stream_values (received p label)
 received_more p f label = go f.turn (get_or f.taken p None) (received p label)
   where
-    go : (t : Turn) (o : Option Value) (stream : Stream) → stream_values (at_turn t o ++ stream) ≡ listed o ++ stream_values stream
+    go : (t : Turn) (o : Option Value) (stream : Stream)
+        → stream_values (at_turn t o ++ stream) ≡ listed o ++ stream_values stream
     go t None stream = refl
     go t (Some v) stream = refl
 
@@ -70,7 +72,8 @@ received_more p f label = go f.turn (get_or f.taken p None) (received p label)
 abbrev pub TakeNothing : ℕ → List Firing → Type 0
 TakeNothing p label = AllByRecursion (λ f. get_or f.taken p None ≡ None) label
 
-module _ (cell : Cell) (u : CellId) (merges : cell.kind ≡ kind.Merge) (fed : cell_from (slice_get cell.ports 0) ≡ Some u) where
+module _ (cell : Cell) (u : CellId) (merges : cell.kind ≡ kind.Merge)
+    (fed : cell_from (slice_get cell.ports 0) ≡ Some u) where
   takes_control : (f : Firing) → IsRightFiring cell f → (v : Value) × (get_or f.taken 0 None ≡ Some v)
   takes_control f right =
       let x = with_constants cell f.taken in
@@ -78,7 +81,8 @@ module _ (cell : Cell) (u : CellId) (merges : cell.kind ≡ kind.Merge) (fed : c
       let wanted : wants cell.kind x 0 ≡ true = ap (λ it. wants it x 0) merges ∙ control_wanted (get_or x 0 None) in
       value_of (get_or f.taken 0 None) (right.takes.takes 0 ∙ (ap (λ b. b && wants cell.kind x 0) arc ∙ wanted))
 
-  passes_by : (f : Firing) (v : Value) → IsRightFiring cell f → get_or f.taken 0 None ≡ Some v → IsNotFalse v → get_or f.taken 2 None ≡ None
+  passes_by : (f : Firing) (v : Value) → IsRightFiring cell f → get_or f.taken 0 None ≡ Some v → IsNotFalse v
+      → get_or f.taken 2 None ≡ None
   passes_by f v right control other =
       let x = with_constants cell f.taken in
       let here : get_or x 0 None ≡ Some v = at_arc (slice_get cell.ports 0) (get_or f.taken 0 None) u fed ∙ control in
@@ -92,7 +96,8 @@ module _ (cell : Cell) (u : CellId) (merges : cell.kind ≡ kind.Merge) (fed : c
   never_false_side [] right others = tt
   never_false_side (f ∷ label) right others =
       let taken = takes_control f right.0 in
-      let all = subst (AllByRecursion IsNotFalse) (received_more 0 f label ∙ ap (λ o. listed o ++ stream_values (received 0 label)) taken.1) others in
+      let first = ap (λ o. listed o ++ stream_values (received 0 label)) taken.1 in
+      let all = subst (AllByRecursion IsNotFalse) (received_more 0 f label ∙ first) others in
       (passes_by f taken.0 right.0 taken.1 all.0, never_false_side label right.1 all.1)
 
 -- so nothing is received there, in the first firings either

@@ -11,5 +11,5 @@ use Rattle.df_build_elem.specs.Program.{program_graph}
 
 -- Well-formed cells of the skeleton of a flat program realize what the program means.
 abbrev pub SkeletonsRealize : Type 0
-SkeletonsRealize = (flat : Flat) (cells : List Cell) → IsFlat flat → graph_of cells ≡ program_graph flat → WellFormed cells
-    → Realizes cells (flat_mean flat)
+SkeletonsRealize = (flat : Flat) (cells : List Cell) → IsFlat flat → graph_of cells ≡ program_graph flat
+    → WellFormed cells → Realizes cells (flat_mean flat)

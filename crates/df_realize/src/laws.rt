@@ -6,8 +6,9 @@ use df_labels::laws::obeys_kinds;
 use df_meant::laws::{skeletons_tell, valid_inputs_have_lengths};
 use df_rank::laws::zones_give_places;
 
-/// Well-formed cells of the skeleton of a flat program realize what the program means: for all valid inputs there are as many
-/// outputs as results, and labels that meet the cells, by which each OUT receives the whole of its result and loops have places.
+/// Well-formed cells of the skeleton of a flat program realize what the program means: for all valid inputs there are
+/// as many outputs as results, and labels that meet the cells, by which each OUT receives the whole of its result and
+/// loops have places.
 pub fn skeletons_realize()
     ensures { SkeletonsRealize }
 {
