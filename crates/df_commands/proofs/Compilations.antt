@@ -12,7 +12,7 @@ use Rattle.df_commands.specs.ProgramTexts.{flat_of, ReadsProgram, ReadsCompilabl
 use Rattle.df_commands.specs.ProgramTexts.IsNotCompilable.{unread, overfull}
 use Rattle.df_commands.specs.Ready.{IsFlatOf}
 use Rattle.df_commands.specs.declared.programs.Source.{Source}
-use Rattle.df_commands.specs.declared.compile.CompiledSource.{CompiledSource}
+use Rattle.df_commands.specs.declared.compilation.CompiledSource.{CompiledSource}
 use Rattle.df_commands.specs.declared.stop.Stop.{Stop}
 use Rattle.df_commands.specs.declared.stop.Stop.TheVariants as stop
 

@@ -1,10 +1,6 @@
-pub mod Scanning
-pub mod SourceTexts
 pub mod Judging
 pub mod OwnNames
 pub mod Readings
-pub mod Additions
-pub mod Faithful
 pub mod ReportLines
 pub mod ReadTexts
 pub mod RunReports
@@ -15,3 +11,4 @@ pub mod Buffers
 pub mod ProgramReadings
 pub mod Compilations
 pub mod SourcesMeant
+pub mod Good

@@ -1,4 +1,4 @@
--- The inputs of a program, and those of well-formed cells, have names of their own.
+-- The inputs of well-formed cells have names of their own.
 use Rattle.std.proofs.Common.{◌≡◌, ◌≢◌, ℕ, zero, suc, ◌<◌, List, [], ◌∷◌, length, Option, Some, None, refl, sym, ◌∙◌, ap, inl, inr, arith}
 use Rattle.std.specs.Prelude.{slice_get}
 use Rattle.std.specs.List.{cons_option}
@@ -71,11 +71,3 @@ declare_apart cells w b c d e below is says =
 
 pub cells_names : (cells : List Cell) → WellFormed cells → HaveOwnNames (inputs_of cells)
 cells_names cells w = record { differ = λ j k d e at there same. one_place cells j k d e (declare_apart cells w) at there same }
-
-pub one_name : (decl : InputDecl) → HaveOwnNames (decl ∷ [])
-one_name decl = record { differ = one_of_one }
-  where
-    one_of_one : (j k : ℕ) (d e : InputDecl) → slice_get (decl ∷ []) j ≡ Some d → slice_get (decl ∷ []) k ≡ Some e → d.name ≡ e.name → j ≡ k
-    one_of_one zero zero d e at there same = refl
-    one_of_one zero (suc k) d e at there same = cc
-    one_of_one (suc j) k d e at there same = cc

@@ -13,28 +13,19 @@ use Rattle.df_iotext.specs.declared.inputs.InputAnswer.{InputAnswer}
 use Rattle.df_celltext.specs.declared.version.Version.TheVariants.{One, Two}
 use Rattle.df_commands.specs.Laws.{AcceptedSourcesBindNewNames, CellFilesHaveOneReading, CellFilesHaveReadings, DualFilesHaveOneReading, DualFilesHaveReadings, CompilationsHaveOneReading, CompilationsHaveReadings, ProgramsHaveOneReading, ProgramsHaveReadings, HasOneVerdict, HasSomeVerdict}
 use Rattle.df_commands.specs.Lines.{refusal}
-use Rattle.df_commands.specs.Meanings.{decls_of, decls_by}
+use Rattle.df_commands.specs.Inputs.{decls_by}
 use Rattle.df_commands.specs.Commands.{texts_of}
 use Rattle.df_commands.specs.declared.command.Command.{Command}
 use Rattle.df_commands.specs.declared.command.Command.TheVariants.{Check, Eval, Compile, Go, Run, Verify, Migrate}
 use Rattle.df_commands.specs.ProgramTexts.{ReadsProgram, ReadsCompilable}
-use Rattle.df_commands.specs.Sources.{ReadsSource}
 use Rattle.df_commands.specs.Texts.{input_reason, and_word, ReadsInputText, ReadsScheduleText, ReadsCellFile, ReadsDualFile}
 use Rattle.df_commands.specs.Verdicts.{Verdict, Refused, Accepted, Task, TellRight, TellMeaning, CompileSource, CompileAndRun, RunCells, TellLeast, WriteAnew, AfterText, AfterRead, Goes, JudgesInputs, JudgesGo, JudgesRun, JudgesVerify, JudgesEval, JudgesTexts, nth, texts_at}
 use Rattle.df_syntax.specs.SourceMeaning.{source_inputs}
 use Rattle.df_syntax.specs.declared.program.Program.{Program as Tree}
-use Rattle.df_commands.specs.declared.program.Program.{Program}
-use Rattle.df_commands.proofs.OwnNames.{cells_names, one_name}
+use Rattle.df_commands.proofs.OwnNames.{cells_names}
 use Rattle.df_commands.proofs.SourcesMeant.{own_names}
-use Rattle.df_commands.proofs.SourceTexts.{one_source}
 
 -- ---- one reading
-
-one_source_reading : (text : List ℕ) (r s : Result Program (List ℕ)) → ReadsSource text r → ReadsSource text s → r ≡ s
-one_source_reading text (Ok p) (Ok q) a b = ap Ok (one_source text p q a b)
-one_source_reading text (Ok p) (Err line) a b = absurd (b.1 p a)
-one_source_reading text (Err line) (Ok q) a b = absurd (a.1 q b)
-one_source_reading text (Err line) (Err other) a b = ap Err (a.0 ∙ sym b.0)
 
 module _ {A B : Type 0} where
   same_found : (p q : A) → (let r : Result A B = Ok p in r) ≡ Ok q → p ≡ q
@@ -100,18 +91,20 @@ one_run one_input one_schedule decls names input schedule task v w =
     (λ inputs read. one_after_text (ReadsScheduleText schedule) v w (last_asked task inputs) (one_schedule_reading one_schedule schedule)
     (λ choices chosen. one_last task inputs v w choices))
 
--- what is asked once the source, and once the cells were read
-abbrev program_asked : (input schedule cells dual : List ℕ) → Verdict → Program → Type 0
-program_asked input schedule cells dual v program = JudgesInputs (decls_of program) input schedule (λ inputs choices. CompileAndRun program inputs choices cells dual) v
+-- what is asked once the source was read, and once the cells were
+abbrev pub run_asked : (input schedule cells dual : List ℕ) → Verdict → Tree → Type 0
+run_asked input schedule cells dual v tree =
+    JudgesInputs (decls_by (source_inputs tree)) input schedule (λ inputs choices. CompileAndRun tree inputs choices cells dual) v
 
 abbrev cells_asked : (input schedule : List ℕ) → Verdict → List Cell → Type 0
 cells_asked input schedule v cells = JudgesInputs (inputs_of cells) input schedule (λ inputs choices. RunCells cells inputs choices) v
 
-one_go : InputsHaveOneReading → SchedulesHaveOneReading → (source input schedule cells dual : List ℕ) (v w : Verdict)
+one_go : InputsHaveOneReading → SchedulesHaveOneReading → CompilationsHaveOneReading → AcceptedSourcesBindNewNames → (source input schedule cells dual : List ℕ) (v w : Verdict)
     → JudgesGo source input schedule cells dual v → JudgesGo source input schedule cells dual w → v ≡ w
-one_go one_input one_schedule source input schedule cells dual v w =
-    one_after_text (ReadsSource source) v w (program_asked input schedule cells dual) (one_source_reading source)
-    (λ program read. one_run one_input one_schedule (decls_of program) (one_name _) input schedule (λ inputs choices. CompileAndRun program inputs choices cells dual) v w)
+one_go one_input one_schedule one_compilation new source input schedule cells dual v w =
+    one_after_text (ReadsCompilable source) v w (run_asked input schedule cells dual) (one_compilation source)
+    (λ tree read. one_run one_input one_schedule (decls_by (source_inputs tree)) (own_names tree (new source tree read.0.0 read.0.1.sized)) input schedule
+    (λ inputs choices. CompileAndRun tree inputs choices cells dual) v w)
 
 one_file : InputsHaveOneReading → SchedulesHaveOneReading → CellFilesHaveOneReading → (cells input schedule : List ℕ) (v w : Verdict)
     → JudgesRun cells input schedule v → JudgesRun cells input schedule w → v ≡ w
@@ -160,7 +153,7 @@ one_of_texts one_input one_schedule one_cells one_dual one_program one_compilati
 one_of_texts one_input one_schedule one_cells one_dual one_program one_compilation new Compile texts writes v w =
     one_after_text (ReadsCompilable (nth texts 0)) v w (compiled_asked (nth writes 0) (nth writes 1)) (one_compilation (nth texts 0)) (λ tree read p q. p ∙ sym q)
 one_of_texts one_input one_schedule one_cells one_dual one_program one_compilation new Go texts writes v w =
-    one_go one_input one_schedule (nth texts 0) (nth texts 1) (nth texts 2) (nth writes 0) (nth writes 1) v w
+    one_go one_input one_schedule one_compilation new (nth texts 0) (nth texts 1) (nth texts 2) (nth writes 0) (nth writes 1) v w
 one_of_texts one_input one_schedule one_cells one_dual one_program one_compilation new Run texts writes v w = one_file one_input one_schedule one_cells (nth texts 0) (nth texts 1) (nth texts 2) v w
 one_of_texts one_input one_schedule one_cells one_dual one_program one_compilation new Verify texts writes v w = one_pair one_cells one_dual (nth texts 0) (nth texts 1) v w
 one_of_texts one_input one_schedule one_cells one_dual one_program one_compilation new Migrate texts writes v w =
@@ -172,9 +165,6 @@ one_verdict one_input one_schedule one_cells one_dual one_program one_compilatio
     (λ texts. one_of_texts one_input one_schedule one_cells one_dual one_program one_compilation new order.command texts order.writes v w)
 
 -- ---- there is a verdict
-
-some_source_reading : (text : List ℕ) → ¬ ((r : Result Program (List ℕ)) → ¬ ReadsSource text r)
-some_source_reading text none = none (Err (refusal (codes "NotBuilt source"))) (refl, λ program source. none (Ok program) source)
 
 input_text_reading : (decls : List InputDecl) (text : List ℕ) (r : Result (List (List Value)) InputAnswer) → ReadsInputs text decls r
     → ((s : Result (List (List Value)) (List ℕ)) → ¬ ReadsInputText decls text s) → ⊥
@@ -227,8 +217,8 @@ some_of_texts some_input some_schedule some_cells some_dual some_program some_co
     some_after_text (ReadsCompilable (nth texts 0)) (compiled_asked (nth writes 0) (nth writes 1)) (some_compilation (nth texts 0))
     (λ tree read none. none (Accepted (CompileSource tree (nth writes 0) (nth writes 1))) refl)
 some_of_texts some_input some_schedule some_cells some_dual some_program some_compilation Go texts writes =
-    some_after_text (ReadsSource (nth texts 0)) (program_asked (nth texts 1) (nth texts 2) (nth writes 0) (nth writes 1)) (some_source_reading (nth texts 0))
-    (λ program read. some_run some_input some_schedule (decls_of program) (nth texts 1) (nth texts 2) (λ inputs choices. CompileAndRun program inputs choices (nth writes 0) (nth writes 1)))
+    some_after_text (ReadsCompilable (nth texts 0)) (run_asked (nth texts 1) (nth texts 2) (nth writes 0) (nth writes 1)) (some_compilation (nth texts 0))
+    (λ tree read. some_run some_input some_schedule (decls_by (source_inputs tree)) (nth texts 1) (nth texts 2) (λ inputs choices. CompileAndRun tree inputs choices (nth writes 0) (nth writes 1)))
 some_of_texts some_input some_schedule some_cells some_dual some_program some_compilation Run texts writes =
     some_after_text (ReadsCellFile Two (nth texts 0)) (cells_asked (nth texts 1) (nth texts 2)) (some_cells Two (nth texts 0))
     (λ list read. some_run some_input some_schedule (inputs_of list) (nth texts 1) (nth texts 2) (λ inputs choices. RunCells list inputs choices))

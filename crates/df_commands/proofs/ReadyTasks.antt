@@ -1,16 +1,9 @@
--- What was read is ready to be run.
+-- A schedule that was read has no more choices than it may.
 use Rattle.std.proofs.Common.{◌≤◌, List, [], ◌∷◌, ℕ, Ok, replicate, arith}
 use Rattle.std.proofs.lemmas.List.{length-append, length-replicate}
 use Rattle.df_cells.specs.declared.schedules.Schedule.{Schedule}
 use Rattle.df_iotext.specs.Schedules.{AreDrain, AreWords, ReadsSchedule, schedule_words}
-use Rattle.df_commands.specs.Ready.{IsWithin, HasFewChoices}
-use Rattle.df_commands.specs.Sources.{IsSource}
-use Rattle.df_commands.specs.declared.program.Program.{Program}
-
-pub within_limits : (text : List ℕ) (program : Program) → IsSource text program → IsWithin program
-within_limits text program source = record { few = source.few; ordinary = source.ordinary }
-
--- ---- a schedule has no more choices than it may
+use Rattle.df_commands.specs.Ready.{HasFewChoices}
 
 short_drain : (words : List (List ℕ)) (drain : ℕ) → AreDrain words drain → drain ≤ 1_000_000_000
 short_drain [] drain is = omega arith

@@ -33,7 +33,7 @@ use Rattle.df_syntax.specs.declared.tree.Expr.{Expr}
 use Rattle.df_syntax.specs.declared.tree.Parameter.{Parameter}
 use Rattle.df_syntax.specs.declared.tree.Sort.{Sort}
 use Rattle.df_syntax.specs.declared.tree.Sort.TheVariants as of
-use Rattle.df_commands.specs.Meanings.{decls_by}
+use Rattle.df_commands.specs.Inputs.{decls_by}
 use Rattle.df_commands.specs.ProgramTexts.{IsSized}
 use Rattle.df_commands.specs.Ready.{IsFlatOf}
 

@@ -1,27 +1,41 @@
--- What is promised of the cells of every program, and of the verdict.
-use Rattle.std.specs.Prelude.{◌≡◌, ℕ, List, All, Result, Ok, IsTrue, codes}
-use Rattle.df_values.specs.Inputs.{HasExtent}
+-- What is promised of the cells of every source, and of the verdict.
+use Rattle.std.specs.Prelude.{◌≡◌, ℕ, List, All, Result, Ok, IsTrue, true}
+use Rattle.df_values.specs.Inputs.{HasExtent, AreValid, declared}
+use Rattle.df_values.specs.declared.values.Value.{Value}
 use Rattle.df_values.specs.declared.inputs.Input.{Input}
 use Rattle.df_syntax.specs.WellShaped.{HaveRanges, IsPiped}
 use Rattle.df_shape.specs.Shaped.{shaped}
 use Rattle.df_io.specs.Told.{Holds}
+use Rattle.df_core.specs.Meaning.{flat_mean}
+use Rattle.df_core.specs.declared.flat.Flat.{Flat}
+use Rattle.df_build_elem.specs.Program.{declared_inputs}
+use Rattle.df_labels.specs.Realizes.{Realizes}
+use Rattle.df_stages.specs.Balance.{IsBalanced}
 use Rattle.df_cells.specs.declared.cells.Cell.{Cell}
-use Rattle.df_machine.specs.ThreeCells.{three_cells}
+use Rattle.df_cells.specs.Cells.{inputs_of}
+use Rattle.df_cells.specs.declared.schedules.Schedule.{Schedule}
 use Rattle.df_celltext.specs.declared.version.Version.{Version}
-use Rattle.df_commands.specs.Compiled.{IsFaithful}
+use Rattle.df_commands.specs.Compiled.{IsGood, run_of}
 use Rattle.df_commands.specs.Commands.{Order}
-use Rattle.df_commands.specs.Ready.{IsWithin}
+use Rattle.df_commands.specs.Ready.{IsFlatOf}
 use Rattle.df_commands.specs.Texts.{ReadsCellFile, ReadsDualFile}
 use Rattle.df_commands.specs.Verdicts.{Verdict, Judges}
 use Rattle.df_cells.specs.WellFormed.{WellFormed}
 use Rattle.df_syntax.specs.FreshNames.{names_are_new}
+use Rattle.df_syntax.specs.SourceMeaning.{source_inputs, source_mean}
 use Rattle.df_syntax.specs.declared.program.Program.{Program as Tree}
 use Rattle.df_commands.specs.ProgramTexts.{IsTextOfTree, IsSized, ReadsProgram, ReadsCompilable}
-use Rattle.df_commands.specs.declared.program.Program.{Program}
 
--- the cells of each program are faithful to it
-abbrev pub AlwaysFaithful : Type 0
-AlwaysFaithful = (program : Program) → IsWithin program → IsFaithful program (three_cells (codes "A") program.elements program.addend)
+-- Cells with the inputs of a source that realize what its flat program means are good for the source.
+abbrev pub CellsOfSourcesAreGood : Type 0
+CellsOfSourcesAreGood = (tree : Tree) (flat : Flat) (cells : List Cell) → IsFlatOf tree flat
+    → inputs_of cells ≡ declared_inputs flat → WellFormed cells → IsBalanced cells → Realizes cells (flat_mean flat) → IsGood tree cells
+
+-- The report of a drained run of good cells has the results that the source means.
+abbrev pub DrainedRunsTellTheMeaning : Type 0
+DrainedRunsTellTheMeaning = (tree : Tree) (cells : List Cell) (inputs : List (List Value)) (schedule : Schedule)
+    → IsGood tree cells → AreValid (declared (source_inputs tree)) inputs → (run_of cells inputs schedule).drained ≡ true
+    → (run_of cells inputs schedule).results ≡ source_mean tree inputs
 
 -- two verdicts on one command and the same files are the same
 abbrev pub HasOneVerdict : Type 0

@@ -1,10 +1,7 @@
 pub mod Lines
 pub mod Commands
 pub mod Effects
-pub mod Meanings
-pub mod Scanned
-pub mod Sources
-pub mod Chain
+pub mod Inputs
 pub mod Reports
 pub mod ProgramTexts
 pub mod Texts

@@ -1,13 +1,9 @@
 -- Lines of text, and the two that say why nothing was done.
-use Rattle.std.specs.Prelude.{◌≡◌, ◌⊎◌, ℕ, List, [], ◌∷◌, ◌++◌, codes}
+use Rattle.std.specs.Prelude.{ℕ, List, [], ◌∷◌, ◌++◌, codes}
 
 -- a text with the line feed at its end
 abbrev pub line : List ℕ → List ℕ
 line text = text ++ 10 ∷ []
-
--- what may stand behind a text whose last line feed may be missing
-abbrev pub IsEnd : List ℕ → Type 0
-IsEnd rest = (rest ≡ []) ⊎ (rest ≡ 10 ∷ [])
 
 -- the answer to words that are no command
 abbrev pub usage : List ℕ

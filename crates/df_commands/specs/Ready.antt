@@ -1,5 +1,5 @@
 -- What is known of a task whose texts were read.
-use Rattle.std.specs.Prelude.{◌≡◌, ◌≤◌, pos, length, IsTrue}
+use Rattle.std.specs.Prelude.{◌≡◌, ◌≤◌, length, IsTrue}
 use Rattle.df_cells.specs.Schedules.{choices_of}
 use Rattle.df_cells.specs.declared.schedules.Schedule.{Schedule}
 use Rattle.df_core.specs.declared.flat.Flat.{Flat}
@@ -9,14 +9,7 @@ use Rattle.df_shape.specs.Shaped.{shaped}
 use Rattle.df_syntax.specs.FreshNames.{names_are_new}
 use Rattle.df_syntax.specs.WellShaped.{IsPiped}
 use Rattle.df_syntax.specs.declared.program.Program.{Program as Tree}
-use Rattle.df_values.specs.Values.{IsOrdinary}
 use Rattle.df_commands.specs.ProgramTexts.{IsSized}
-use Rattle.df_commands.specs.declared.program.Program.{Program}
-
--- the program is within its limits
-pub record IsWithin (program : Program) : Type 0 where
-  pub few : program.elements ≤ 4096
-  pub ordinary : IsOrdinary (pos program.addend)
 
 -- there are no more choices than a schedule may have, its drain counted
 abbrev pub HasFewChoices : Schedule → Type 0

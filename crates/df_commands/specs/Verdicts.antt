@@ -10,25 +10,24 @@ use Rattle.df_cells.specs.Cells.{inputs_of}
 use Rattle.df_celltext.specs.declared.version.Version.TheVariants.{One, Two}
 use Rattle.df_syntax.specs.declared.program.Program.{Program as Tree}
 use Rattle.df_syntax.specs.SourceMeaning.{source_inputs}
-use Rattle.df_commands.specs.declared.program.Program.{Program}
 use Rattle.df_commands.specs.declared.command.Command.{Command}
 use Rattle.df_commands.specs.declared.command.Command.TheVariants.{Check, Eval, Compile, Go, Run, Verify, Migrate}
 use Rattle.df_commands.specs.declared.command.Text.{Text}
 use Rattle.df_commands.specs.Commands.{Order, texts_of, label_of, limit_of}
+use Rattle.df_commands.specs.Inputs.{decls_by}
 use Rattle.df_commands.specs.Lines.{refusal}
-use Rattle.df_commands.specs.Meanings.{decls_of, decls_by}
 use Rattle.df_commands.specs.ProgramTexts.{ReadsProgram, ReadsCompilable}
-use Rattle.df_commands.specs.Sources.{ReadsSource}
 use Rattle.df_commands.specs.Texts.{ReadsInputText, ReadsScheduleText, ReadsCellFile, ReadsDualFile}
 
--- What the texts of a command ask for, once none of them is refused: that a source is told to be right, that its meaning is told under some inputs, that it is compiled and its cells are written, that a program is
--- compiled and its cells are run and written, that cells are run, that it is told of cells that their buffers are balanced and least,
--- or that cells of an older form are written anew.
+-- What the texts of a command ask for, once none of them is refused: that a source is told to be right, that its
+-- meaning is told under some inputs, that it is compiled and its cells are written, that its cells are run as well,
+-- that cells are run, that it is told of cells that their buffers are balanced and least, or that cells of an older
+-- form are written anew.
 pub data Task : Type 0 where
   TellRight : Task
   TellMeaning : (tree : Tree) (inputs : List (List Value)) → Task
   CompileSource : (tree : Tree) (cells dual : List ℕ) → Task
-  CompileAndRun : (program : Program) (inputs : List (List Value)) (schedule : Schedule) (cells dual : List ℕ) → Task
+  CompileAndRun : (tree : Tree) (inputs : List (List Value)) (schedule : Schedule) (cells dual : List ℕ) → Task
   RunCells : (cells : List Cell) (inputs : List (List Value)) (schedule : Schedule) → Task
   TellLeast : (cells : List Cell) → Task
   WriteAnew : (cells : List Cell) (name : List ℕ) → Task
@@ -89,8 +88,9 @@ JudgesInputs decls input schedule task v =
 -- The texts are judged in their order, the source or the cells first.
 abbrev pub JudgesGo : (source input schedule : List ℕ) → (cells dual : List ℕ) → Verdict → Type 0
 JudgesGo source input schedule cells dual v =
-    AfterText (ReadsSource source) v (λ program.
-    JudgesInputs (decls_of program) input schedule (λ inputs choices. CompileAndRun program inputs choices cells dual) v)
+    AfterText (ReadsCompilable source) v (λ tree.
+    JudgesInputs (decls_by (source_inputs tree)) input schedule
+    (λ inputs choices. CompileAndRun tree inputs choices cells dual) v)
 
 abbrev pub JudgesRun : (cells input schedule : List ℕ) → Verdict → Type 0
 JudgesRun cells input schedule v =

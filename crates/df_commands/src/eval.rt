@@ -1,8 +1,9 @@
 //! `eval`: it is told what a source means under its inputs.
 ghost use Rattle.std.specs.Prelude.{◌≡◌, ◌≤◌, length, IfOk, IsErrOf};
 ghost use Rattle.df_syntax.specs.SourceMeaning.{source_inputs};
-ghost use Rattle.df_values.specs.Inputs.{AreValid, input_length, declared};
-ghost use Rattle.df_commands.specs.Meanings.{decls_by};
+ghost use Rattle.df_values.specs.Inputs.{AreValid, declared};
+ghost use Rattle.df_build_elem.specs.Program.{declared_input};
+ghost use Rattle.df_commands.specs.Inputs.{decls_by};
 ghost use Rattle.df_commands.specs.Ready.{IsFlatOf};
 ghost use Rattle.df_commands.specs.Verdicts.{TellMeaning, JudgesEval};
 ghost use Rattle.df_commands.specs.Judged.{Finds, Settles};
@@ -22,7 +23,7 @@ use std::alloc::Global;
 
 // What is declared of a parameter.
 fn decl_by(input: &Input) -> InputDecl
-    ensures { result ≡ record { name = input.now.name; basic = input.now.basic; length = input_length input.now.extent } }
+    ensures { result ≡ declared_input input.now }
 {
     let length = match input.extent {
         None => 1,

@@ -1,5 +1,5 @@
 //! What follows from the definitions of the verdict alone: each call does nothing, and its contract is a law.
-ghost use Rattle.df_commands.specs.Laws.{AcceptedSourcesBindNewNames, AcceptedSourcesKeepTheirDemands, CellFilesHaveOneReading, CellFilesHaveReadings, CompilationsHaveOneReading, CompilationsHaveReadings, DualFilesHaveOneReading, DualFilesHaveReadings, HasOneVerdict, HasSomeVerdict, ProgramsHaveOneReading, ProgramsHaveReadings};
+ghost use Rattle.df_commands.specs.Laws.{AcceptedSourcesBindNewNames, AcceptedSourcesKeepTheirDemands, CellFilesHaveOneReading, CellFilesHaveReadings, CellsOfSourcesAreGood, CompilationsHaveOneReading, CompilationsHaveReadings, DrainedRunsTellTheMeaning, DualFilesHaveOneReading, DualFilesHaveReadings, HasOneVerdict, HasSomeVerdict, ProgramsHaveOneReading, ProgramsHaveReadings};
 
 use df_accepted::laws::accepted_sources_are_piped;
 use df_celltext::laws::{has_one_first_wrong_line, is_read_or_wrong, text_tells_the_cells};
@@ -7,10 +7,12 @@ use df_dual_check::laws::{
     certified_dont_fail, fails_once as flow_fails_once, has_one_wrong_line, others_fail,
     others_have_wrong_lines, tells_one_flow,
 };
+use df_flattened::laws::lowering_keeps_the_meaning;
 use df_iotext::laws::{
     inputs_have_one_reading, inputs_have_readings, schedules_have_one_reading,
     schedules_have_readings,
 };
+use df_rank::laws::realizing_cells_are_good;
 use df_syntax::laws::{
     text_has_one_first_bad_place, text_has_one_split, text_has_tokens_or_a_bad_place,
     text_with_tokens_has_no_bad_place, tokens_have_one_answer, tokens_have_some_answer,
@@ -102,6 +104,21 @@ pub fn accepted_sources_bind_new_names()
     trees_are_well_built();
     accepted_names_are_new();
 }
+
+/// Cells with the inputs of a source that realize what its flat program means are good for the source: for all valid
+/// inputs and every list of choices no operand comes to an occupied place, each result is a prefix of what the source
+/// means, and it is all of it whenever no event is possible.
+pub fn cells_of_sources_are_good()
+    ensures { CellsOfSourcesAreGood }
+{
+    realizing_cells_are_good();
+    lowering_keeps_the_meaning();
+}
+
+/// Where a run of such cells is drained, its report has the results that the source means.
+pub fn drained_runs_tell_the_meaning()
+    ensures { DrainedRunsTellTheMeaning }
+{}
 
 /// There is at most one verdict on a command and what the files hold.
 pub fn has_one_verdict()

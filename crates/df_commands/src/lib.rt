@@ -6,9 +6,9 @@
 #![tactic(auto)]
 
 mod cell_files;
-pub mod chain;
 mod check;
 pub mod command;
+mod compilation;
 mod compile;
 mod eval;
 mod go;
@@ -16,15 +16,12 @@ pub mod laws;
 mod migrate;
 pub mod plan;
 pub mod planned;
-pub mod program;
 mod programs;
 mod reads;
 mod refusals;
 pub mod report;
 mod run;
 mod runs;
-mod scanner;
-mod source;
 mod source_refusals;
 pub mod stop;
 mod verify;

@@ -91,6 +91,11 @@ fn obey<F: Files, K: Sink>(alloc: Global, order: Order<'_>, files: &mut F, out: 
 /// Does what the words of a command line say, the program's name left out, and answers how it ended.
 ///
 /// All files are read and all texts judged before the first file is created; the files are written before `out`.
+///
+/// `compile` and `go` take the same sources, and write the cells of the source and a dual flow that certifies that no
+/// balanced placement has fewer buffers. For all valid inputs of the source and every list of choices, not only those
+/// that `go` was given, these cells never have a clash, each result is a prefix of what the source means, and it is all
+/// of it whenever no event is possible. So where `go` ends in `Done`, it reports what the source means.
 pub fn valflow<F: Files, K: Sink>(
     alloc: Global,
     words: &Vec<String>,

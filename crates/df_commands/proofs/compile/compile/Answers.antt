@@ -3,7 +3,7 @@ use Rattle.std.specs.Prelude.{string_bytes}
 use Rattle.std.proofs.lemmas.Result.{err_from_is_err_and}
 use Rattle.df_commands.specs.ProgramTexts.{ReadsCompilable}
 use Rattle.df_commands.specs.Verdicts.{CompileSource}
-use Rattle.df_commands.specs.declared.compile.CompiledSource.{CompiledSource}
+use Rattle.df_commands.specs.declared.compilation.CompiledSource.{CompiledSource}
 use Rattle.df_commands.proofs.Judging.{refused_first}
 use Rattle.df_commands.proofs.Readings.{compiled_asked}
 use Rattle.df_commands.proofs.compile.compile.Goals as goal

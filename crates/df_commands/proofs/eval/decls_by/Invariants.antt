@@ -1,5 +1,5 @@
 use Rattle.std.proofs.Common.{◌≡◌, take}
-use Rattle.df_commands.specs.Meanings.{decls_by}
+use Rattle.df_commands.specs.Inputs.{decls_by}
 use Rattle.df_commands.proofs.eval.decls_by.Given as goal
 
 abbrev pub invariant-loop-input : goal.invariant-loop-input

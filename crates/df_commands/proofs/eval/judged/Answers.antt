@@ -7,7 +7,7 @@ use Rattle.df_syntax.specs.SourceMeaning.{source_inputs}
 use Rattle.df_values.specs.Inputs.{AreValid, Declaration}
 use Rattle.df_values.specs.Streams.{StreamLists}
 use Rattle.df_commands.specs.Judged.{StopsAs}
-use Rattle.df_commands.specs.Meanings.{decls_by}
+use Rattle.df_commands.specs.Inputs.{decls_by}
 use Rattle.df_commands.specs.ProgramTexts.{ReadsProgram}
 use Rattle.df_commands.specs.Texts.{ReadsInputText}
 use Rattle.df_commands.specs.Verdicts.{Verdict, AfterText}

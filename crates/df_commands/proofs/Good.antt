@@ -1,0 +1,85 @@
+-- Cells that realize what the flat program of a source means are good for the source, and their drained runs tell it.
+use Rattle.std.proofs.Common.{◌≡◌, ◌∙◌, ◌==◌, ℕ, true, List, [], length, get_or, map, ap, sym, subst, arith}
+use Rattle.std.proofs.lemmas.List.{ext_get_or}
+use Rattle.df_values.specs.Inputs.{AreValid, declared}
+use Rattle.df_values.specs.declared.inputs.Input.{Input}
+use Rattle.df_values.specs.declared.values.Value.{Value}
+use Rattle.df_cells.specs.declared.cells.Cell.{Cell}
+use Rattle.df_cells.specs.declared.cells.InputDecl.{InputDecl}
+use Rattle.df_cells.specs.Cells.{declaration_of, declarations, inputs_of}
+use Rattle.df_cells.specs.Schedules.{choices_of}
+use Rattle.df_cells.specs.WellFormed.{WellFormed}
+use Rattle.df_cells.specs.declared.schedules.Schedule.{Schedule}
+use Rattle.df_core.specs.Meaning.{flat_mean}
+use Rattle.df_core.specs.declared.flat.Flat.{Flat}
+use Rattle.df_build_elem.specs.Program.{declared_inputs, program_graph}
+use Rattle.df_buffers_laws.specs.HasSkeleton.{HasSkeleton}
+use Rattle.df_compile.specs.Compiled.{IsCompiledFrom}
+use Rattle.df_flattened.specs.Law.{LoweringKeepsTheMeaning}
+use Rattle.df_labels.specs.Histories.{IsPrefix}
+use Rattle.df_labels.specs.Realizes.{Realizes}
+use Rattle.df_machine.specs.Events.{possible}
+use Rattle.df_machine.specs.Reports.{report}
+use Rattle.df_machine.specs.Runs.{after}
+use Rattle.df_rank.specs.Laws.{RealizingCellsAreGood}
+use Rattle.df_stages.specs.Balance.{IsBalanced}
+use Rattle.df_syntax.specs.SourceMeaning.{source_inputs, source_mean}
+use Rattle.df_syntax.specs.declared.program.Program.{Program as Tree}
+use Rattle.df_commands.specs.Compiled.{IsCompiled, IsGood}
+use Rattle.df_commands.specs.Inputs.{decls_by}
+use Rattle.df_commands.specs.Laws.{CellsOfSourcesAreGood, DrainedRunsTellTheMeaning}
+use Rattle.df_commands.specs.ProgramTexts.{flat_of}
+use Rattle.df_commands.specs.Ready.{IsFlatOf}
+use Rattle.df_commands.proofs.SourcesMeant.{declared_by_decls, flat_inputs, meant}
+
+-- the inputs of the cells are those of the source
+pub inputs_of_source : (tree : Tree) (flat : Flat) (cells : List Cell) → IsFlatOf tree flat → inputs_of cells ≡ declared_inputs flat → inputs_of cells ≡ decls_by (source_inputs tree)
+inputs_of_source tree flat cells is inputs = inputs ∙ ap decls_by (flat_inputs tree flat is)
+
+-- so what is valid for the source is valid for the cells
+valid_inputs : (tree : Tree) (cells : List Cell) (inputs : List (List Value)) → inputs_of cells ≡ decls_by (source_inputs tree) → AreValid (declared (source_inputs tree)) inputs
+    → AreValid (declarations cells) inputs
+valid_inputs tree cells inputs same =
+    subst (λ ds. AreValid ds inputs) (sym (ap (λ (ds : List InputDecl). map declaration_of ds) same ∙ declared_by_decls (source_inputs tree)))
+
+pub good_for_source : RealizingCellsAreGood → LoweringKeepsTheMeaning → CellsOfSourcesAreGood
+good_for_source are_good keeps tree flat cells is inputs formed balanced realizes =
+    let good = are_good cells (flat_mean flat) formed balanced realizes in
+    let same = inputs_of_source tree flat cells is inputs in
+    record {
+      no_clash = λ lists choices choice valid. good.faithful.no_clash lists choices choice (valid_inputs tree cells lists same valid);
+      results = λ lists choices valid.
+          good.faithful.results lists choices (valid_inputs tree cells lists same valid) ∙ ap length (meant keeps tree flat lists is valid);
+      prefixes = λ lists choices k valid.
+          subst (λ (o : List (List Value)). IsPrefix (get_or (after cells lists choices).results k []) (get_or o k [])) (meant keeps tree flat lists is valid)
+          (good.faithful.prefixes lists choices k (valid_inputs tree cells lists same valid));
+      whole = λ lists choices k valid ended.
+          good.whole lists choices k (valid_inputs tree cells lists same valid) ended
+          ∙ ap (λ (o : List (List Value)). get_or o k []) (meant keeps tree flat lists is valid);
+    }
+
+-- what the compiler of flat programs promises, said of the source
+pub compiled_source : CellsOfSourcesAreGood → (tree : Tree) (flat : Flat) (cells : List Cell) (flow : List ℕ) → IsFlatOf tree flat → IsCompiledFrom flat cells flow → Realizes cells (flat_mean flat)
+    → IsCompiled tree cells flow
+compiled_source are_good tree flat cells flow is from realizes = record {
+  well_formed = from.well_formed;
+  inputs = inputs_of_source tree flat cells is from.inputs;
+  skeleton = subst (λ f. HasSkeleton cells (program_graph f)) is.is from.skeleton;
+  balanced = from.balanced;
+  least = from.least;
+  lowest = from.lowest;
+  certificate = from.certificate;
+  good = are_good tree flat cells is from.inputs from.well_formed from.balanced realizes;
+}
+
+-- ---- drained runs
+
+no_event : (n : ℕ) → (n == 0) ≡ true → n ≡ 0
+no_event n none = grind arith
+
+pub drained_tell : DrainedRunsTellTheMeaning
+unfolding report
+drained_tell tree cells inputs schedule good valid drained =
+    let ended : possible cells (after cells inputs (choices_of schedule)) ≡ 0 = no_event (possible cells (after cells inputs (choices_of schedule))) drained in
+    ext_get_or [] (after cells inputs (choices_of schedule)).results (source_mean tree inputs) (good.results inputs (choices_of schedule) valid)
+    (λ k within. good.whole inputs (choices_of schedule) k valid ended)
