@@ -1,5 +1,6 @@
 pub mod Counts
 pub mod FlightKeys
+pub mod Places
 pub mod Formed
 pub mod WellFormedRuns
 pub mod Fires
@@ -8,6 +9,7 @@ pub mod Arrives
 pub mod SoundRuns
 pub mod ArcInvariant
 pub mod Scans
+pub mod Indexes
 pub mod Room
 pub mod Outputs
 pub mod Enabled
@@ -15,6 +17,7 @@ pub mod Wanted
 pub mod Told
 pub mod ToldRuns
 pub mod Steps
+pub mod Looks
 pub mod Drained
 pub mod ThreeCellsRun
 pub mod Starts

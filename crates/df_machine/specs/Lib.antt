@@ -2,6 +2,8 @@ pub mod CanRun
 pub mod Flights
 pub mod States
 pub mod Events
+pub mod Indexes
+pub mod InOrder
 pub mod Runs
 pub mod Reports
 pub mod Sound
