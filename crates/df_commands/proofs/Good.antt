@@ -2,14 +2,11 @@
 use Rattle.std.proofs.Common.{◌≡◌, ◌∙◌, ◌==◌, ℕ, true, List, [], length, get_or, map, ap, sym, subst, arith}
 use Rattle.std.proofs.lemmas.List.{ext_get_or}
 use Rattle.df_values.specs.Inputs.{AreValid, declared}
-use Rattle.df_values.specs.declared.inputs.Input.{Input}
 use Rattle.df_values.specs.declared.values.Value.{Value}
 use Rattle.df_cells.specs.declared.cells.Cell.{Cell}
 use Rattle.df_cells.specs.declared.cells.InputDecl.{InputDecl}
 use Rattle.df_cells.specs.Cells.{declaration_of, declarations, inputs_of}
 use Rattle.df_cells.specs.Schedules.{choices_of}
-use Rattle.df_cells.specs.WellFormed.{WellFormed}
-use Rattle.df_cells.specs.declared.schedules.Schedule.{Schedule}
 use Rattle.df_core.specs.Meaning.{flat_mean}
 use Rattle.df_core.specs.declared.flat.Flat.{Flat}
 use Rattle.df_build_elem.specs.Program.{declared_inputs, program_graph}
@@ -17,18 +14,15 @@ use Rattle.df_buffers_laws.specs.HasSkeleton.{HasSkeleton}
 use Rattle.df_compile.specs.Compiled.{IsCompiledFrom}
 use Rattle.df_flattened.specs.Law.{LoweringKeepsTheMeaning}
 use Rattle.df_labels.specs.Histories.{IsPrefix}
-use Rattle.df_labels.specs.Realizes.{Realizes}
 use Rattle.df_machine.specs.Events.{possible}
 use Rattle.df_machine.specs.Reports.{report}
 use Rattle.df_machine.specs.Runs.{after}
 use Rattle.df_rank.specs.Laws.{RealizingCellsAreGood}
-use Rattle.df_stages.specs.Balance.{IsBalanced}
 use Rattle.df_syntax.specs.SourceMeaning.{source_inputs, source_mean}
 use Rattle.df_syntax.specs.declared.program.Program.{Program as Tree}
-use Rattle.df_commands.specs.Compiled.{IsCompiled, IsGood}
+use Rattle.df_commands.specs.Compiled.{IsCompiled}
 use Rattle.df_commands.specs.Inputs.{decls_by}
 use Rattle.df_commands.specs.Laws.{CellsOfSourcesAreGood, DrainedRunsTellTheMeaning}
-use Rattle.df_commands.specs.ProgramTexts.{flat_of}
 use Rattle.df_commands.specs.Ready.{IsFlatOf}
 use Rattle.df_commands.proofs.SourcesMeant.{declared_by_decls, flat_inputs, meant}
 
@@ -59,9 +53,9 @@ good_for_source are_good keeps tree flat cells is inputs formed balanced realize
     }
 
 -- what the compiler of flat programs promises, said of the source
-pub compiled_source : CellsOfSourcesAreGood → (tree : Tree) (flat : Flat) (cells : List Cell) (flow : List ℕ) → IsFlatOf tree flat → IsCompiledFrom flat cells flow → Realizes cells (flat_mean flat)
+pub compiled_source : CellsOfSourcesAreGood → (tree : Tree) (flat : Flat) (cells : List Cell) (flow : List ℕ) → IsFlatOf tree flat → IsCompiledFrom flat cells flow
     → IsCompiled tree cells flow
-compiled_source are_good tree flat cells flow is from realizes = record {
+compiled_source are_good tree flat cells flow is from = record {
   well_formed = from.well_formed;
   inputs = inputs_of_source tree flat cells is from.inputs;
   skeleton = subst (λ f. HasSkeleton cells (program_graph f)) is.is from.skeleton;
@@ -69,7 +63,7 @@ compiled_source are_good tree flat cells flow is from realizes = record {
   least = from.least;
   lowest = from.lowest;
   certificate = from.certificate;
-  good = are_good tree flat cells is from.inputs from.well_formed from.balanced realizes;
+  good = are_good tree flat cells is from.inputs from.well_formed from.balanced from.realizes;
 }
 
 -- ---- drained runs

@@ -1,5 +1,5 @@
 -- What is promised of the cells of every source, and of the verdict.
-use Rattle.std.specs.Prelude.{◌≡◌, ℕ, List, All, Result, Ok, IsTrue, true}
+use Rattle.std.specs.Prelude.{◌≡◌, ℕ, List, All, Result, IsTrue, true}
 use Rattle.df_values.specs.Inputs.{HasExtent, AreValid, declared}
 use Rattle.df_values.specs.declared.values.Value.{Value}
 use Rattle.df_values.specs.declared.inputs.Input.{Input}

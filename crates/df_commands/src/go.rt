@@ -13,6 +13,8 @@ use crate::compilation::{CompiledSource, files_of, judge_compilation};
 use crate::plan::Plan;
 use crate::runs::{RunTexts, judged_inputs, run_cells};
 use crate::stop::Stop;
+use df_compile::compile::Compiled;
+use df_syntax::program::Program;
 use df_values::memory::Memory;
 use std::alloc::Global;
 
@@ -43,23 +45,23 @@ fn judged(alloc: Global, source: &[u8], input: &[u8], schedule: &[u8]) -> Result
     Ok(SourceToRun { source, texts })
 }
 
-// The files of cells and of their dual flow, and the report of their run.
+// The files of the cells and of their dual flow, and the report of their run.
 fn planned<'a>(
     alloc: Global,
-    source: CompiledSource,
+    tree: &Program,
+    compiled: Compiled,
     texts: RunTexts,
     cells: &'a String,
     dual: &'a String,
 ) -> Result<Plan<'a>, Memory>
-    requires compiled { IsCompiled source.tree source.compiled.cells source.compiled.balance.flow }
-    requires skeleton { source.compiled.skeleton ≡ skeleton_of source.compiled.cells }
-    requires valid { AreValid (declarations source.compiled.cells) texts.inputs.lists }
+    requires compiled { IsCompiled tree.now compiled.cells compiled.balance.flow }
+    requires skeleton { compiled.skeleton ≡ skeleton_of compiled.cells }
+    requires valid { AreValid (declarations compiled.cells) texts.inputs.lists }
     requires few { HasFewChoices texts.schedule }
     ensures { IfOk result (λ plan.
-        MayDo (CompileAndRun source.tree texts.inputs.lists texts.schedule (string_bytes cells.now) (string_bytes dual.now))
+        MayDo (CompileAndRun tree.now texts.inputs.lists texts.schedule (string_bytes cells.now) (string_bytes dual.now))
         (effect_of plan)) }
 {
-    let compiled = source.compiled;
     let files = files_of(alloc, &compiled, cells, dual)?;
     let ran = run_cells(alloc, compiled.cells, texts.inputs, &texts.schedule)?;
     Ok(Plan {
@@ -86,5 +88,6 @@ pub fn go<'a>(
     ensures no_fault { IsErrOf result Stop.ReadFault → ⊥ }
 {
     let SourceToRun { source, texts } = judged(alloc, source, input, schedule)?;
-    Ok(planned(alloc, source, texts, cells, dual)?)
+    let CompiledSource { tree, compiled } = source;
+    Ok(planned(alloc, &tree, compiled, texts, cells, dual)?)
 }

@@ -1,4 +1,4 @@
-use Rattle.std.proofs.Common.{◌≡◌, Ok, refl}
+use Rattle.std.proofs.Common.{Ok, refl}
 use Rattle.std.specs.Prelude.{string_bytes}
 use Rattle.std.proofs.lemmas.Result.{err_from_is_err_and}
 use Rattle.df_commands.specs.ProgramTexts.{ReadsCompilable}

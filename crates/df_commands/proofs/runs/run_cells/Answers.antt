@@ -8,7 +8,7 @@ use Rattle.df_commands.specs.Reports.{report_text}
 use Rattle.df_commands.proofs.RunReports.{same_report}
 use Rattle.df_commands.proofs.runs.run_cells.Goals as goal
 
-reported : (c : goal.After-drop-machine-inside-11)
+reported : (c : goal.After-drop-machine-inside-13)
     → record { drained = c.run_tracked-end.result.drained; events = c.run_tracked-end.result.events; results = c.run_tracked-end.new.t.state.results; fired = c.run_tracked-end.new.t.state.fired }
     ≡ run_of c.args.cells c.args.inputs.lists c.args.schedule.now
 reported c =
