@@ -1,4 +1,5 @@
 pub mod CellLines
+pub mod WritableCells
 pub mod CutLemmas
 pub mod OptionLemmas
 pub mod NumberLemmas
@@ -13,3 +14,4 @@ pub mod WrongLemmas
 pub mod AnswerLemmas
 pub mod OneWrongLine
 pub mod SomeAnswer
+pub mod MoreWords

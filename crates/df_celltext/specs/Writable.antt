@@ -3,13 +3,14 @@ use Rattle.std.specs.Prelude.{◌≡◌, ◌≤◌, ◌&&◌, ◌||◌, ◌==◌
 use Rattle.std.specs.List.{list_all}
 use Rattle.df_values.specs.Values.{IsOrdinary, IsValue}
 use Rattle.df_cells.specs.declared.cells.Cell.{Cell}
+use Rattle.df_cells.specs.declared.cells.InputDecl.{InputDecl}
 use Rattle.df_cells.specs.declared.cells.Dest.{Dest}
 use Rattle.df_cells.specs.declared.cells.Feed.{Feed}
 use Rattle.df_cells.specs.declared.cells.Feed.TheVariants.{Arc, Constant, Loaded}
 use Rattle.df_cells.specs.declared.kinds.Kind.{Kind}
 use Rattle.df_cells.specs.declared.kinds.Kind.TheVariants as kind
 use Rattle.df_cells.specs.declared.kinds.Run.{Run}
-use Rattle.df_cells.specs.Cells.{AreCells}
+use Rattle.df_cells.specs.Cells.{AreCells, inputs_of}
 use Rattle.df_celltext.specs.declared.version.Version.{Version}
 use Rattle.df_celltext.specs.declared.version.Version.TheVariants.{Two}
 use Rattle.df_celltext.specs.Versions.{has_cell}
@@ -32,6 +33,15 @@ is_name_byte b = is_letter b || (between 48 57 b || b == 95)
 abbrev pub is_name : List ℕ → Bool
 is_name [] = false
 is_name (b ∷ more) = is_letter b && (list_all is_name_byte more && nat_le (length (b ∷ more)) 64)
+
+-- a kind that declares an input declares it under a name
+abbrev pub IsNamed : Kind → Type 0
+IsNamed (kind.In name basic n) = IsTrue (is_name name)
+IsNamed _ = Unit {0}
+
+-- the names of the inputs that the cells declare are names
+abbrev pub HaveNames : List Cell → Type 0
+HaveNames cells = All (λ (decl : InputDecl). IsTrue (is_name decl.name)) (inputs_of cells)
 
 -- ---- numbers
 

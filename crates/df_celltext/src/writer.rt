@@ -1,28 +1,45 @@
 //! The text of a cell file.
-ghost use Rattle.std.specs.Prelude.{◌≡◌, ◌++◌, ◌∷◌, [], map, OnOk, IfOk};
+ghost use Rattle.std.specs.Prelude.{◌≡◌, ◌++◌, ◌∷◌, [], All, map, OnOk, IfOk};
+ghost use Rattle.df_values.specs.Spelling.{spelled};
+ghost use Rattle.df_values.specs.Values.{IsValue};
 ghost use Rattle.df_celltext.specs.CellText.{spaced, run_word, port_word, dest_word, spelled_basic, kind_words, cell_line, cell_text};
+ghost use Rattle.df_celltext.specs.Writable.{IsNamed, HaveNames, IsWritableRun, IsWritableKind, IsWritableFeed, IsWritableDest, IsWritableCell, IsTextOf};
 
 use crate::kinds::plain_word;
 use df_cells::cells::{Cell, CellId, Cells, Dest, Feed};
 use df_cells::kinds::{Kind, Run};
 use df_values::bytes::Bytes;
 use df_values::memory::Memory;
-use df_values::values::Basic;
+use df_values::values::{Basic, Value};
 use std::alloc::Global;
 
-// Each function adds its piece at the end.
+// Each function adds its piece at the end. What the types keep of its numbers makes that piece one that can be read again.
+
+// A value, whose number is within the range of its type.
+#[tactic(auto, unfolding(df_values::specs::Values::least, df_values::specs::Values::greatest))]
+fn push_value(text: &mut Bytes, value: Value) -> Result<(), Memory>
+    ensures text { OnOk result (text.new ≡ text.old ++ spelled value) }
+    ensures writable { IsValue value }
+{
+    match value {
+        Value::Int(number) => text.push_signed(i128::from(number)),
+        Value::Truth(_) | Value::Error(_) => text.push_value(value),
+    }
+}
 
 fn push_run(text: &mut Bytes, run: &Run) -> Result<(), Memory>
-    ensures { OnOk result (text.new ≡ text.old ++ spaced (run_word run.now ∷ [])) }
+    ensures text { OnOk result (text.new ≡ text.old ++ spaced (run_word run.now ∷ [])) }
+    ensures writable { OnOk result (IsWritableRun run.now) }
 {
     text.push_text(" ")?;
     text.push_number(u64::from(run.count))?;
     text.push_text("*")?;
-    text.push_value(run.value)
+    push_value(text, run.value)
 }
 
 fn push_runs(text: &mut Bytes, runs: &[Run]) -> Result<(), Memory>
-    ensures { OnOk result (text.new ≡ text.old ++ spaced (map run_word runs.now)) }
+    ensures text { OnOk result (text.new ≡ text.old ++ spaced (map run_word runs.now)) }
+    ensures writable { OnOk result (All IsWritableRun runs.now) }
 {
     for run in runs {
         push_run(text, run)?;
@@ -31,7 +48,8 @@ fn push_runs(text: &mut Bytes, runs: &[Run]) -> Result<(), Memory>
 }
 
 fn push_feed(text: &mut Bytes, feed: &Feed) -> Result<(), Memory>
-    ensures { OnOk result (text.new ≡ text.old ++ spaced (port_word feed.now ∷ [])) }
+    ensures text { OnOk result (text.new ≡ text.old ++ spaced (port_word feed.now ∷ [])) }
+    ensures writable { OnOk result (IsWritableFeed feed.now) }
 {
     match feed {
         Feed::Arc(cell) => {
@@ -40,19 +58,20 @@ fn push_feed(text: &mut Bytes, feed: &Feed) -> Result<(), Memory>
         }
         Feed::Constant(value) => {
             text.push_text(" =")?;
-            text.push_value(*value)
+            push_value(text, *value)
         }
         Feed::Loaded(cell, value) => {
             text.push_text(" @")?;
             text.push_number(u64::from(cell.0))?;
             text.push_text("!")?;
-            text.push_value(*value)
+            push_value(text, *value)
         }
     }
 }
 
 fn push_feeds(text: &mut Bytes, feeds: &[Feed]) -> Result<(), Memory>
-    ensures { OnOk result (text.new ≡ text.old ++ spaced (map port_word feeds.now)) }
+    ensures text { OnOk result (text.new ≡ text.old ++ spaced (map port_word feeds.now)) }
+    ensures writable { OnOk result (All IsWritableFeed feeds.now) }
 {
     for feed in feeds {
         push_feed(text, feed)?;
@@ -61,7 +80,8 @@ fn push_feeds(text: &mut Bytes, feeds: &[Feed]) -> Result<(), Memory>
 }
 
 fn push_dest(text: &mut Bytes, dest: &Dest) -> Result<(), Memory>
-    ensures { OnOk result (text.new ≡ text.old ++ spaced (dest_word dest.now ∷ [])) }
+    ensures text { OnOk result (text.new ≡ text.old ++ spaced (dest_word dest.now ∷ [])) }
+    ensures writable { OnOk result (IsWritableDest dest.now) }
 {
     text.push_text(" ")?;
     text.push_number(u64::from(dest.cell.0))?;
@@ -70,7 +90,8 @@ fn push_dest(text: &mut Bytes, dest: &Dest) -> Result<(), Memory>
 }
 
 fn push_dests(text: &mut Bytes, dests: &[Dest]) -> Result<(), Memory>
-    ensures { OnOk result (text.new ≡ text.old ++ spaced (map dest_word dests.now)) }
+    ensures text { OnOk result (text.new ≡ text.old ++ spaced (map dest_word dests.now)) }
+    ensures writable { OnOk result (All IsWritableDest dests.now) }
 {
     for dest in dests {
         push_dest(text, dest)?;
@@ -88,8 +109,10 @@ fn basic_word(basic: Basic) -> &'static str
 }
 
 // The name of a kind with a space before it, and what goes with it.
+#[tactic(auto, unfolding(df_values::specs::Values::least, df_values::specs::Values::greatest))]
 fn push_kind(text: &mut Bytes, kind: &Kind) -> Result<(), Memory>
-    ensures { OnOk result (text.new ≡ text.old ++ spaced (kind_words kind.now)) }
+    ensures text { OnOk result (text.new ≡ text.old ++ spaced (kind_words kind.now)) }
+    ensures writable { OnOk result (IsNamed kind.now → IsWritableKind kind.now) }
 {
     match kind {
         Kind::In {
@@ -126,7 +149,8 @@ fn push_kind(text: &mut Bytes, kind: &Kind) -> Result<(), Memory>
 
 // The line of a cell.
 fn push_cell(text: &mut Bytes, number: u32, cell: &Cell) -> Result<(), Memory>
-    ensures { OnOk result (text.new ≡ text.old ++ cell_line number cell.now) }
+    ensures text { OnOk result (text.new ≡ text.old ++ cell_line number cell.now) }
+    ensures writable { OnOk result (IsNamed cell.now.kind → IsWritableCell cell.now) }
 {
     text.push_number(u64::from(number))?;
     push_kind(text, &cell.kind)?;
@@ -141,9 +165,11 @@ fn push_cell(text: &mut Bytes, number: u32, cell: &Cell) -> Result<(), Memory>
     text.push_text("\n")
 }
 
-/// The text of a list of cells, of version 2. The only error is want of memory.
+/// The text of a list of cells, of version 2. Where the names of its inputs are names, it is the text of this list and of no other,
+/// so that it can be read again. The only error is want of memory.
 pub fn write_cells(alloc: Global, cells: &Cells) -> Result<Bytes, Memory>
-    ensures { IfOk result (λ text. text ≡ cell_text cells.now) }
+    ensures text { IfOk result (λ text. text ≡ cell_text cells.now) }
+    ensures readable { IfOk result (λ text. HaveNames cells.now → IsTextOf text cells.now) }
 {
     let mut text = Bytes::new(alloc);
     text.push_text("dataflow 2 ")?;

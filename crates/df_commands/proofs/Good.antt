@@ -1,7 +1,12 @@
 -- Cells that realize what the flat program of a source means are good for the source, and their drained runs tell it.
-use Rattle.std.proofs.Common.{◌≡◌, ◌∙◌, ◌==◌, ℕ, true, List, [], length, get_or, map, ap, sym, subst, arith}
+use Rattle.std.proofs.Common.{◌≡◌, ◌∙◌, ◌==◌, ℕ, zero, suc, true, List, [], ◌∷◌, length, get_or, map, ap, sym, subst, arith}
 use Rattle.std.proofs.lemmas.List.{ext_get_or}
+use Rattle.std.specs.List.{AllByRecursion}
+use Rattle.std.specs.Prelude.{All, IsTrue}
 use Rattle.df_values.specs.Inputs.{AreValid, declared}
+use Rattle.df_celltext.specs.Writable.{is_name, HaveNames}
+use Rattle.df_input_names.specs.Laws.{InputsAreNamed}
+use Rattle.df_commands.specs.ProgramTexts.{IsTextOfTree}
 use Rattle.df_values.specs.declared.values.Value.{Value}
 use Rattle.df_cells.specs.declared.cells.Cell.{Cell}
 use Rattle.df_cells.specs.declared.cells.InputDecl.{InputDecl}
@@ -53,11 +58,23 @@ good_for_source are_good keeps tree flat cells is inputs formed balanced realize
     }
 
 -- what the compiler of flat programs promises, said of the source
-pub compiled_source : CellsOfSourcesAreGood → (tree : Tree) (flat : Flat) (cells : List Cell) (flow : List ℕ) → IsFlatOf tree flat → IsCompiledFrom flat cells flow
+-- the names of inputs, as what cells declare
+all_named : (inputs : List Input) → AllByRecursion (λ (i : Input). IsTrue (is_name i.name)) inputs → All (λ (d : InputDecl). IsTrue (is_name d.name)) (decls_by inputs)
+all_named [] all k d within = absurd (omega (arith, within))
+all_named (i ∷ inputs) all zero d within = all.0
+all_named (i ∷ inputs) all (suc k) d within = all_named inputs all.1 k d (omega (arith, within))
+
+names_of_source : InputsAreNamed → (text : List ℕ) (tree : Tree) (cells : List Cell) → IsTextOfTree text tree → inputs_of cells ≡ decls_by (source_inputs tree) → HaveNames cells
+names_of_source named text tree cells is same =
+    subst (λ (ds : List InputDecl). All (λ (d : InputDecl). IsTrue (is_name d.name)) ds) (sym same) (all_named (source_inputs tree) (named text is.list tree is.tokens is.source))
+
+pub compiled_source : CellsOfSourcesAreGood → InputsAreNamed → (text : List ℕ) (tree : Tree) (flat : Flat) (cells : List Cell) (flow : List ℕ) → IsTextOfTree text tree
+    → IsFlatOf tree flat → IsCompiledFrom flat cells flow
     → IsCompiled tree cells flow
-compiled_source are_good tree flat cells flow is from = record {
+compiled_source are_good named text tree flat cells flow reads is from = record {
   well_formed = from.well_formed;
   inputs = inputs_of_source tree flat cells is from.inputs;
+  named = names_of_source named text tree cells reads (inputs_of_source tree flat cells is from.inputs);
   skeleton = subst (λ f. HasSkeleton cells (program_graph f)) is.is from.skeleton;
   balanced = from.balanced;
   least = from.least;

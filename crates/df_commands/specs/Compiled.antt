@@ -8,6 +8,7 @@ use Rattle.df_cells.specs.Cells.{inputs_of}
 use Rattle.df_cells.specs.Schedules.{choices_of}
 use Rattle.df_cells.specs.WellFormed.{WellFormed}
 use Rattle.df_celltext.specs.CellText.{cell_text}
+use Rattle.df_celltext.specs.Writable.{HaveNames, IsTextOf}
 use Rattle.df_iotext.specs.Printed.{result_lines}
 use Rattle.df_stages.specs.Balance.{IsBalanced, IsLeast, IsCertificate}
 use Rattle.df_stages.specs.Skeletons.{arcs}
@@ -47,11 +48,13 @@ pub record IsGood (tree : Tree) (cells : List Cell) : Type 0 where
       → possible cells (after cells inputs choices) ≡ 0
       → get_or (after cells inputs choices).results k [] ≡ get_or (source_mean tree inputs) k []
 
--- The cells of a source: well-formed, with the skeleton of its flat program, balanced with least buffers from stage 0
--- on, and good. The flow certifies that the buffers are least.
+-- The cells of a source: well-formed, with the inputs of the source under names that a cell file may have, with the
+-- skeleton of its flat program, balanced with least buffers from stage 0 on, and good. The flow certifies that the
+-- buffers are least.
 pub record IsCompiled (tree : Tree) (cells : List Cell) (flow : List ℕ) : Type 0 where
   pub well_formed : WellFormed cells
   pub inputs : inputs_of cells ≡ decls_by (source_inputs tree)
+  pub named : HaveNames cells
   pub skeleton : HasSkeleton cells (program_graph (flat_of tree))
   pub balanced : IsBalanced cells
   pub least : IsLeast cells
@@ -69,17 +72,18 @@ run_of cells inputs schedule = report cells inputs (choices_of schedule)
 abbrev pub files_of : List Cell → List ℕ → (cells_name dual_name : List ℕ) → List (List ℕ × List ℕ)
 files_of cells flow cells_name dual_name = (cells_name, cell_text cells) ∷ (dual_name, dual_text (arcs cells) flow) ∷ []
 
--- What may be written for a task. One list of cells stands for the files, the text and the status.
+-- What may be written for a task. One list of cells stands for the files, the text and the status. What is written of
+-- it is its text, which can be read again.
 abbrev pub MayDo : Task → Effect → Type 0
 MayDo TellRight effect = effect ≡ record { files = []; text = line (codes "ok"); is_done = true }
 -- the lists of the results, as the report of a run has them
 MayDo (TellMeaning tree inputs) effect =
     effect ≡ record { files = []; text = result_lines 1 (source_mean tree inputs); is_done = true }
 MayDo (CompileSource tree cells_name dual_name) effect =
-    (cells : List Cell) × (flow : List ℕ) × IsCompiled tree cells flow
+    (cells : List Cell) × (flow : List ℕ) × IsCompiled tree cells flow × IsTextOf (cell_text cells) cells
     × (effect ≡ record { files = files_of cells flow cells_name dual_name; text = counts_text cells; is_done = true })
 MayDo (CompileAndRun tree inputs schedule cells_name dual_name) effect =
-    (cells : List Cell) × (flow : List ℕ) × IsCompiled tree cells flow
+    (cells : List Cell) × (flow : List ℕ) × IsCompiled tree cells flow × IsTextOf (cell_text cells) cells
     × (effect ≡ record {
       files = files_of cells flow cells_name dual_name;
       text = report_text (run_of cells inputs schedule);

@@ -1,5 +1,7 @@
 //! The cells of a source, and their files.
 ghost use Rattle.std.specs.Prelude.{◌≡◌, ◌≤◌, length, map, IfOk, string_bytes};
+ghost use Rattle.df_celltext.specs.CellText.{cell_text};
+ghost use Rattle.df_celltext.specs.Writable.{HaveNames, IsTextOf};
 ghost use Rattle.df_stages.specs.Balance.{IsCertificate};
 ghost use Rattle.df_stages.specs.Skeletons.{skeleton_of};
 ghost use Rattle.df_commands.specs.Compiled.{IsCompiled, files_of};
@@ -15,6 +17,7 @@ use crate::stop::Stop;
 use df_celltext::writer::write_cells;
 use df_compile::compile::{CompileAnswer, Compiled, compile};
 use df_dual_check::dual_text::write_dual;
+use df_input_names::laws::inputs_are_named;
 use df_syntax::program::Program;
 use df_values::memory::Memory;
 use std::alloc::Global;
@@ -38,6 +41,7 @@ pub fn judge_compilation(alloc: Global, text: &[u8]) -> Result<CompiledSource, S
     ensures skeleton { IfOk result (λ it. it.compiled.skeleton ≡ skeleton_of it.compiled.cells) }
 {
     cells_of_sources_are_good();
+    inputs_are_named();
     let Source { tree, flat } = judge_program(alloc, text)?;
     match compile(alloc, &flat) {
         Ok(compiled) => Ok(CompiledSource { tree, compiled }),
@@ -49,17 +53,20 @@ pub fn judge_compilation(alloc: Global, text: &[u8]) -> Result<CompiledSource, S
     }
 }
 
-/// The files of the cells and of their dual flow, under these names. The only error is want of memory.
+/// The files of the cells and of their dual flow, under these names. The text of the cells can be read again. The only
+/// error is want of memory.
 pub fn files_of<'a>(
     alloc: Global,
     it: &Compiled,
     cells: &'a String,
     dual: &'a String,
 ) -> Result<Vec<NewFile<'a>>, Memory>
+    requires named { HaveNames it.now.cells }
     requires certificate { IsCertificate it.now.cells it.now.balance.flow }
     requires skeleton { it.now.skeleton ≡ skeleton_of it.now.cells }
-    ensures { IfOk result (λ files. map file_of files.items
+    ensures files { IfOk result (λ files. map file_of files.items
         ≡ files_of it.now.cells it.now.balance.flow (string_bytes cells.now) (string_bytes dual.now)) }
+    ensures readable { IfOk result (λ _. IsTextOf (cell_text it.now.cells) it.now.cells) }
 {
     let mut files = Vec::new(alloc);
     files.push(NewFile {
