@@ -1,7 +1,7 @@
 -- That a balance of few cells can be placed, and that its refusal speaks of every numbering.
-use Rattle.std.proofs.Common.{◌≡◌, ℕ, ◌+◌, ◌*◌, ◌≤◌, ℤ, pos, ◌+ℤ◌, ◌≤ℤ◌, ◌<ℤ◌, Bool, not, List, length, map, refl, sym, ap, ◌∙◌, subst, arith}
+use Rattle.std.proofs.Common.{◌≡◌, ℕ, ◌≤◌, ℤ, pos, ◌+ℤ◌, ◌≤ℤ◌, ◌<ℤ◌, not, List, length, refl, sym, ap, ◌∙◌, subst, arith}
 use Rattle.std.specs.Prelude.{All}
-use Rattle.std.specs.List.{range_with_len, filter}
+use Rattle.std.specs.List.{range_with_len}
 use Rattle.std.proofs.lemmas.Int.{ints}
 use Rattle.std.proofs.lemmas.List.{length-map}
 use Rattle.std.proofs.lemmas.List.FromFn.{length-range_with_len}
@@ -11,7 +11,7 @@ use Rattle.df_cells.specs.WellFormed.{WellFormed}
 use Rattle.df_stages.specs.declared.skeleton.SkeletonArc.{SkeletonArc}
 use Rattle.df_stages.specs.SkeletonLists.{SkeletonLists}
 use Rattle.df_stages.specs.Nodes.{is_node}
-use Rattle.df_stages.specs.Skeletons.{nodes, arcs, cell_id, skeleton_of, WeightsWithin, IsSkeleton}
+use Rattle.df_stages.specs.Skeletons.{nodes, arcs, cell_id, skeleton_of, IsSkeleton}
 use Rattle.df_stages.specs.Flows.{Respects, total_excess, IsDualFlow, flow_value}
 use Rattle.df_stages.specs.Laws.{IsWeaklyDual}
 use Rattle.df_cancel.specs.Balances.{numbered, IsBalance, IsTight}

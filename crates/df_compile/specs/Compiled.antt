@@ -1,5 +1,5 @@
 -- What a flat program is compiled to, and why it is not.
-use Rattle.std.specs.Prelude.{◌≡◌, ◌≤◌, ◌<◌, ℕ, List, map}
+use Rattle.std.specs.Prelude.{◌≡◌, ◌≤◌, ◌<◌, ℕ, List}
 use Rattle.df_cells.specs.declared.cells.Cell.{Cell}
 use Rattle.df_cells.specs.Cells.{inputs_of}
 use Rattle.df_cells.specs.WellFormed.{WellFormed}
