@@ -16,7 +16,7 @@ use df_buffers::placing::{BufferAnswer, place_buffers};
 use df_buffers_laws::laws::same_skeletons;
 use df_build_elem::build::{BuildAnswer, build};
 use df_cancel::balancer::{Balance, Balancer};
-use df_cancel::cancel::Cancel;
+use df_paths::paths::Paths;
 use df_cells::cells::Cells;
 use df_core::flat::Flat;
 use df_realize::laws::skeletons_realize;
@@ -98,7 +98,7 @@ fn fill(alloc: Global, cells: Cells) -> Result<Filled, CompileAnswer>
     has_skeletons();
     is_weakly_dual();
     let s = skeleton(alloc, &cells)?;
-    let balance = Cancel.balance(alloc, &s)?;
+    let balance = Paths.balance(alloc, &s)?;
     match place_buffers(alloc, cells, &s, &balance) {
         Ok(cells) => Ok(Filled { cells, balance }),
         Err(BufferAnswer::TooManyCells) => Err(CompileAnswer::TooManyCells),
