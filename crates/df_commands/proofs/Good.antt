@@ -4,6 +4,7 @@ use Rattle.std.proofs.lemmas.List.{ext_get_or}
 use Rattle.std.specs.List.{AllByRecursion}
 use Rattle.std.specs.Prelude.{All, IsTrue}
 use Rattle.df_values.specs.Inputs.{AreValid, declared}
+use Rattle.df_values.specs.declared.inputs.Input.{Input}
 use Rattle.df_celltext.specs.Writable.{is_name, HaveNames}
 use Rattle.df_input_names.specs.Laws.{InputsAreNamed}
 use Rattle.df_commands.specs.ProgramTexts.{IsTextOfTree}
