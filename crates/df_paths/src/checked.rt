@@ -119,7 +119,7 @@ fn is_conserved(s: &Skeleton, flow: &[u32]) -> bool
     true
 }
 
-/// Whether stages and a flow obey the law. They are never refused where they do, but for flow that is shorter than the differences show.
+/// Whether stages and a flow obey the law: a flow is of greatest value where each arc that has some is as long as its weight.
 pub fn is_lawful(s: &Skeleton, stages: &[i64], flow: &[u32]) -> bool
     ensures balance { IsTrue result → IsBalance s.now stages.now flow.now }
     ensures tight { IsTrue result → IsTight s.now stages.now flow.now }

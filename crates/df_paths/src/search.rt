@@ -59,6 +59,7 @@ impl Search {
         })
     }
 
+    /// The label of a node, by which it is as far as its number is above it.
     pub fn label(&self, node: usize) -> i64 {
         at(&self.labels, node)
     }
