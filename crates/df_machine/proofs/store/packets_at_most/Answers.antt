@@ -1,6 +1,4 @@
-use Rattle.std.proofs.Common.{◌≡◌, ◌+◌, ◌≤◌, length, ap, arith}
-use Rattle.df_cells.specs.declared.cells.Cell.{Cell}
-use Rattle.df_machine.specs.Flights.{cell_room}
+use Rattle.std.proofs.Common.{arith}
 use Rattle.df_machine.proofs.Room.{room_next, room_all}
 use Rattle.df_machine.proofs.store.packets_at_most.Goals as goal
 

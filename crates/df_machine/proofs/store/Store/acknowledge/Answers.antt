@@ -1,5 +1,5 @@
 use Rattle.df_machine.specs.Seen.{state_of}
-use Rattle.std.proofs.Common.{◌≡◌, Some, sym, ◌∙◌, ap, subst, arith}
+use Rattle.std.proofs.Common.{◌≡◌, Some, sym, ◌∙◌}
 use Rattle.df_cells.specs.Cells.{producer_of}
 use Rattle.df_machine.specs.Events.{acknowledge}
 use Rattle.df_machine.proofs.Indexes.{acknowledge_alike}
