@@ -1,6 +1,8 @@
 pub mod Counts
 pub mod FlightKeys
+pub mod FlightNames
 pub mod Places
+pub mod Standing
 pub mod Formed
 pub mod WellFormedRuns
 pub mod Fires
@@ -11,6 +13,7 @@ pub mod ArcInvariant
 pub mod Scans
 pub mod Indexes
 pub mod Room
+pub mod Apart
 pub mod Outputs
 pub mod Enabled
 pub mod Wanted
@@ -18,6 +21,7 @@ pub mod Told
 pub mod ToldRuns
 pub mod Steps
 pub mod Looks
+pub mod PlaceOf
 pub mod Drained
 pub mod ThreeCellsRun
 pub mod Starts

@@ -1,0 +1,102 @@
+-- The place of an event among the possible ones.
+use Rattle.std.proofs.Common.{◌≡◌, ◌≢◌, ℕ, zero, suc, ◌+◌, ◌-◌, ◌%◌, ◌<◌, true, false, List, [], ◌∷◌, get_or, length, Option, Some, None, refl, sym, ◌∙◌, ap, subst, ◌⊎◌, inl, inr, arith}
+use Rattle.std.specs.Prelude.{slice_get}
+use Rattle.std.specs.List.{AllByRecursion}
+use Rattle.std.proofs.lemmas.Option.{slice_get_within}
+use Rattle.std.proofs.Math.Nat.{mod-eq_of_lt}
+use Rattle.df_cells.specs.declared.cells.Cell.{Cell}
+use Rattle.df_cells.specs.declared.cells.CellId.{CellId}
+use Rattle.df_machine.specs.declared.packets.Packet.{Packet}
+use Rattle.df_machine.specs.declared.packets.Packet.TheVariants.{Operation, Operand, Acknowledgement}
+use Rattle.df_machine.specs.declared.packets.Event.{Event}
+use Rattle.df_machine.specs.declared.packets.Event.TheVariants.{Fire}
+use Rattle.df_machine.specs.declared.store.Store.{Store}
+use Rattle.df_machine.specs.States.{State}
+use Rattle.df_machine.specs.Events.{is_enabled, enabled, possible, event_of, event_from, event_at, chosen_event}
+use Rattle.df_machine.specs.Flights.{IsAt}
+use Rattle.df_machine.specs.Indexes.{enabled_flags}
+use Rattle.df_machine.specs.Seen.{state_of, Indexed, IsPlaceOf}
+use Rattle.df_pick.specs.Sums.{up_count, up_before}
+use Rattle.df_machine.proofs.Indexes.{flags_long, flag_is, count_is, kth_is, past_is}
+use Rattle.df_machine.proofs.SoundRuns.{enabled_at}
+
+-- ---- an event that is possible
+
+first-le : (n m : ℕ) → n < m → n % m ≡ n
+first-le n m h = mod-eq_of_lt h
+
+chosen_at : (cells : List Cell) (s : State) (place : ℕ) (event : Event) → place < possible cells s
+    → event_from (slice_get (enabled cells s) place) (slice_get s.packets (place - length (enabled cells s))) ≡ Some event → IsPlaceOf cells s place event
+unfolding chosen_event event_at
+chosen_at cells s place event within is = record {
+  within = within;
+  chosen = ap (λ k. event_from (slice_get (enabled cells s) k) (slice_get s.packets (k - length (enabled cells s)))) (first-le place (possible cells s) within) ∙ is;
+}
+
+pub place_of_cell : (cells : List Cell) (st : Store) (place : ℕ) (c : CellId) (event : Event) → Indexed cells st → c.0 < length cells → is_enabled cells (state_of st) c.0 ≡ true
+    → place ≡ up_before st.enabled c.0 → Fire c ≡ event → IsPlaceOf cells (state_of st) place event
+unfolding possible
+place_of_cell cells st place c event indexed within up before is =
+    let s = state_of st in
+    let flag : get_or (enabled_flags cells s) c.0 false ≡ true = flag_is cells s c.0 within ∙ up in
+    let at = kth_is cells s place c.0 (let l = flags_long cells s in omega arith) flag (sym (before ∙ ap (λ l. up_before l c.0) indexed)) in
+    let some = slice_get_within (enabled cells s) place c.0 at in
+    chosen_at cells s place event (omega arith) (ap (λ o. event_from o (slice_get s.packets (place - length (enabled cells s)))) at ∙ ap (λ e. Some e) is)
+
+pub place_of_packet : (cells : List Cell) (st : Store) (count place : ℕ) (event : Event) → Indexed cells st → count ≡ up_count st.enabled → IsAt st.packets.packets place event
+    → IsPlaceOf cells (state_of st) (count + place) event
+unfolding possible
+place_of_packet cells st count place event indexed counted at =
+    let s = state_of st in let few = count_is cells s in
+    let all : count ≡ length (enabled cells s) = counted ∙ ap up_count indexed ∙ few in
+    let some = slice_get_within s.packets place at.0 at.1 in
+    let past = past_is cells s (count + place) (omega arith) in
+    chosen_at cells s (count + place) event (omega arith)
+    (ap (λ o. event_from o (slice_get s.packets (count + place - length (enabled cells s)))) past
+    ∙ ap (λ k. event_from None (slice_get s.packets k)) (let z : count + place - length (enabled cells s) ≡ place = omega arith in z)
+    ∙ ap (λ o. event_from None o) at.1 ∙ ap (λ e. Some e) at.2)
+
+-- ---- an event that isn't
+
+-- a cell fires, or a packet is taken
+cases_from : (cell : Option ℕ) (packet : Option Packet) (event : Event) → event_from cell packet ≡ Some event
+    → ((c : ℕ) × (cell ≡ Some c) × (Fire (record { 0 = c }) ≡ event)) ⊎ ((p : Packet) × (packet ≡ Some p) × (event_of p ≡ event))
+cases_from (Some c) packet event is = inl (c, refl, cc)
+cases_from None (Some p) event is = inr (p, refl, cc)
+cases_from None None event is = cc
+
+never_fire : (p : Packet) (c : CellId) → event_of p ≡ Fire c → ⊥
+never_fire (Operation d x) c is = cc
+never_fire (Operand d v) c is = cc
+never_fire (Acknowledgement d) c is = cc
+
+same_cell : (c d : CellId) → Fire c ≡ Fire d → c ≡ d
+same_cell c d is = cc
+
+pub no_place_of_cell : (cells : List Cell) (s : State) (c : CellId) (event : Event) → Fire c ≡ event → (c.0 < length cells → is_enabled cells s c.0 ≡ false) → (choice : ℕ) → chosen_event cells s choice ≢ Some event
+unfolding chosen_event event_at
+no_place_of_cell cells s c event is down choice taken =
+    let k = choice % possible cells s in
+    elim (cases_from (slice_get (enabled cells s) k) (slice_get s.packets (k - length (enabled cells s))) event taken) [
+      | inl f ↦ (
+          let ready = enabled_at cells s k f.0 f.1 in
+          let same : f.0 ≡ c.0 = ap (λ (x : CellId). x.0) (same_cell (record { 0 = f.0 }) c (f.2 ∙ sym is)) in
+          let up : is_enabled cells s c.0 ≡ true = subst (λ j. is_enabled cells s j ≡ true) same ready.1 in
+          let no_up = down (subst (λ j. j < length cells) same ready.0) in cc)
+      | inr p ↦ never_fire p.0 c (p.2 ∙ sym is)
+    ]
+
+none_of : (packets : List Packet) (event : Event) (i : ℕ) (p : Packet) → AllByRecursion (λ packet. event_of packet ≢ event) packets → slice_get packets i ≡ Some p → event_of p ≡ event → ⊥
+none_of [] event i p none at is = cc
+none_of (x ∷ packets) event zero p none at is = none.0 (let e : x ≡ p = cc in ap event_of e ∙ is)
+none_of (x ∷ packets) event (suc i) p none at is = none_of packets event i p none.1 at is
+
+pub no_place_of_packet : (cells : List Cell) (s : State) (event : Event) → ((c : CellId) → Fire c ≡ event → ⊥) → AllByRecursion (λ packet. event_of packet ≢ event) s.packets
+    → (choice : ℕ) → chosen_event cells s choice ≢ Some event
+unfolding chosen_event event_at
+no_place_of_packet cells s event other none choice taken =
+    let k = choice % possible cells s in
+    elim (cases_from (slice_get (enabled cells s) k) (slice_get s.packets (k - length (enabled cells s))) event taken) [
+      | inl f ↦ other (record { 0 = f.0 }) f.2
+      | inr p ↦ none_of s.packets event (k - length (enabled cells s)) p.0 none p.1 p.2
+    ]
