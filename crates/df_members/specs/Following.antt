@@ -1,5 +1,6 @@
 -- A run that follows labels of members.
-use Rattle.std.specs.Prelude.{◌≡◌, ◌<◌, ◌≤◌, ◌-◌, ℕ, true, List, [], ◌++◌, get_or, length, map, take, Some, None, is_some}
+use Rattle.std.specs.Prelude.{◌≡◌, ◌<◌, ◌≤◌, ◌-◌, ℕ, true, List, [], ◌++◌, get_or, length, map, take, Some, None}
+use Rattle.std.specs.Prelude.{is_some}
 use Rattle.df_values.specs.declared.values.Value.{Value}
 use Rattle.df_cells.specs.declared.cells.CellId.{CellId}
 use Rattle.df_cells.specs.declared.cells.Cell.{Cell}
@@ -21,17 +22,23 @@ fired_so_far cells inputs choices labels c = take (firings (after cells inputs c
 pub record Follows (cells : List Cell) (inputs : List (List Value)) (choices : List ℕ) (labels : Labels) : Type 0 where
   -- the firings of each cell so far are the first of its label; what they take are values, none of it is nothing
   pub begun : (c : ℕ) → firings (after cells inputs choices) c ≤ length (labels c)
-  pub taken : (c : ℕ) → takes_of (fired_so_far cells inputs choices labels c) ≡ map lift (histories cells inputs choices c)
-  -- on each arc, what was loaded and then what the firings of the producer so far answer are, in order, what the firings of the consumer
-  -- so far took there, and then what is still on the way; all of it are values
+  pub taken : (c : ℕ) → takes_of (fired_so_far cells inputs choices labels c)
+      ≡ map lift (histories cells inputs choices c)
+  -- on each arc, what was loaded and then what the firings of the producer so far answer are, in order, what the
+  -- firings of the consumer so far took there, and then what is still on the way; all of it are values
   pub arcs : (d : Dest) (u : CellId) → producer_of cells d ≡ Some u
       → sure (listed (loaded_at cells d)) ++ members (answered (fired_so_far cells inputs choices labels u.0))
-      ≡ members (received d.port.0 (fired_so_far cells inputs choices labels d.cell.0)) ++ sure (on_the_way cells inputs (after cells inputs choices) u.0 d)
+      ≡ members (received d.port.0 (fired_so_far cells inputs choices labels d.cell.0))
+      ++ sure (on_the_way cells inputs (after cells inputs choices) u.0 d)
   -- what a cell now wants at a port that an arc feeds, the next firing of its label takes there
-  pub wanted : (c : ℕ) → firings (after cells inputs choices) c < length (labels c) → (p : ℕ) (u : CellId) → producer_of cells (port_of c p) ≡ Some u
+  pub wanted : (c : ℕ) → firings (after cells inputs choices) c < length (labels c) → (p : ℕ) (u : CellId)
+      → producer_of cells (port_of c p) ≡ Some u
       → wants (cell_at cells c).kind (with_constants (cell_at cells c) (row (after cells inputs choices) c)) p ≡ true
       → is_some (get_or (firing_at (labels c) (firings (after cells inputs choices) c)).taken p None) ≡ true
-  -- each result is a prefix of what its OUT takes, and where no packet is in flight it is what the OUT has taken so far
-  pub results : (c k m : ℕ) → (cell_at cells c).kind ≡ kind.Out k m → IsPrefix (sure (get_or (after cells inputs choices).results (k - 1) [])) (members (received 0 (labels c)))
+  -- each result is a prefix of what its OUT takes, and it is all that the OUT has taken so far where no packet is in
+  -- flight
+  pub results : (c k m : ℕ) → (cell_at cells c).kind ≡ kind.Out k m
+      → IsPrefix (sure (get_or (after cells inputs choices).results (k - 1) [])) (members (received 0 (labels c)))
   pub written : (after cells inputs choices).packets ≡ [] → (c k m : ℕ) → (cell_at cells c).kind ≡ kind.Out k m
-      → sure (get_or (after cells inputs choices).results (k - 1) []) ≡ members (received 0 (fired_so_far cells inputs choices labels c))
+      → sure (get_or (after cells inputs choices).results (k - 1) [])
+      ≡ members (received 0 (fired_so_far cells inputs choices labels c))

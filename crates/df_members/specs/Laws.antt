@@ -11,5 +11,6 @@ use Rattle.df_members.specs.Following.{Follows}
 
 -- A run of fewer than n events follows all labels that meet the cells, the inputs and n.
 abbrev pub FollowsMembers : Type 0
-FollowsMembers = (cells : List Cell) (inputs : List (List Value)) (n : ℕ) (labels : Labels) (choices : List ℕ) → WellFormed cells → AreValid (declarations cells) inputs
+FollowsMembers = (cells : List Cell) (inputs : List (List Value)) (n : ℕ) (labels : Labels) (choices : List ℕ)
+    → WellFormed cells → AreValid (declarations cells) inputs
     → LabelsMeet cells inputs n labels → events cells inputs choices < n → Follows cells inputs choices labels

@@ -1,6 +1,8 @@
--- Labels of members: for each cell its firings, where what is taken and answered is a value or nothing. Nothing stands for a value that
--- never comes, as that of a loop which is given out after so many turns. Such labels are whole: on each arc all that is answered is taken.
-use Rattle.std.specs.Prelude.{◌≡◌, ◌<◌, ◌+◌, ℕ, Bool, true, false, ◌&&◌, List, [], ◌∷◌, ◌++◌, map, get_or, length, slice_get, take, Option, Some, None, is_some}
+-- Labels of members: for each cell its firings, where what is taken and answered is a value or nothing. Nothing stands
+-- for a value that never comes, as that of a loop which is given out after so many turns. Such labels are whole:
+-- on each arc all that is answered is taken.
+use Rattle.std.specs.Prelude.{◌≡◌, ◌<◌, ◌+◌, ℕ, Bool, true, false, ◌&&◌, List, [], ◌∷◌, ◌++◌, map, get_or, length}
+use Rattle.std.specs.Prelude.{slice_get, take, Option, Some, None, is_some}
 use Rattle.std.specs.List.{AllByRecursion, flat_map}
 use Rattle.df_values.specs.declared.values.Value.{Value}
 use Rattle.df_cells.specs.declared.cells.CellId.{CellId}
@@ -98,7 +100,8 @@ coming cells labels d u = sure (listed (loaded_at cells d)) ++ members (answered
 -- the next member that comes to a port and that the label leaves there
 abbrev pub left_from : List Cell → Labels → Dest → Option CellId → Option Member
 left_from cells labels d None = None
-left_from cells labels d (Some u) = slice_get (coming cells labels d u.0) (length (received d.port.0 (labels d.cell.0)))
+left_from cells labels d (Some u) = slice_get (coming cells labels d u.0)
+    (length (received d.port.0 (labels d.cell.0)))
 
 abbrev pub left_at : List Cell → Labels → ℕ → ℕ → Option Member
 left_at cells labels c p = left_from cells labels (port_of c p) (producer_of cells (port_of c p))
@@ -108,7 +111,8 @@ pub record IsOver (cells : List Cell) (labels : Labels) (c : ℕ) : Type 0 where
   pub port : ℕ
   pub from : CellId
   pub fed : producer_of cells (port_of c port) ≡ Some from
-  pub wanted : wants (cell_at cells c).kind (with_constants (cell_at cells c) (per_port (λ p. value_of (left_at cells labels c p)))) port ≡ true
+  pub wanted : wants (cell_at cells c).kind
+      (with_constants (cell_at cells c) (per_port (λ p. value_of (left_at cells labels c p)))) port ≡ true
   pub missing : left_at cells labels c port ≡ None
 
 -- ---- labels that meet cells, inputs and a number of firings
@@ -116,12 +120,14 @@ pub record IsOver (cells : List Cell) (labels : Labels) (c : ℕ) : Type 0 where
 -- firings that answer these values in order, at the turns i, i + 1 and so on
 abbrev pub in_order_from : ℕ → List Value → List Firing
 in_order_from i [] = []
-in_order_from i (v ∷ vs) = record { turn = i ∷ []; taken = per_port (λ p. None); answer = Some (Some v) } ∷ in_order_from (i + 1) vs
+in_order_from i (v ∷ vs) =
+    record { turn = i ∷ []; taken = per_port (λ p. None); answer = Some (Some v) } ∷ in_order_from (i + 1) vs
 
 -- A firing takes what its kind wants. A control that is nothing wants itself alone, as one that is missing.
 pub record IsWanted (cell : Cell) (f : Firing) : Type 0 where
   pub ports : length f.taken ≡ 3
-  pub takes : (p : ℕ) → is_some (get_or f.taken p None) ≡ (is_some (cell_from (slice_get cell.ports p)) && wants cell.kind (with_constants cell (values f.taken)) p)
+  pub takes : (p : ℕ) → is_some (get_or f.taken p None)
+      ≡ (is_some (cell_from (slice_get cell.ports p)) && wants cell.kind (with_constants cell (values f.taken)) p)
 
 -- The label of the cell c meets the cells and inputs, as far as n firings of each cell go.
 pub record MeetsAt (cells : List Cell) (inputs : List (List Value)) (n : ℕ) (labels : Labels) (c : ℕ) : Type 0 where
@@ -129,13 +135,16 @@ pub record MeetsAt (cells : List Cell) (inputs : List (List Value)) (n : ℕ) (l
   pub source : (vs : List Value) → source_values cells inputs c ≡ Some vs → labels c ≡ in_order_from 0 vs
   -- the turns of a cell rise
   pub rising : AreRising (map (λ f. f.turn) (labels c))
-  -- At a port that an arc feeds, the firings take as many members as the producer answers, the first of what comes there: all of it at a
-  -- port without a loaded value, and at one with such a value all but one, so that as much is left as lay there at the start.
+  -- At a port that an arc feeds, the firings take as many members as the producer answers, the first of what comes
+  -- there: all of it at a port without a loaded value, and at one with such a value all but one, so that as much
+  -- is left as lay there at the start.
   pub arcs : (p : ℕ) (u : CellId) → producer_of cells (port_of c p) ≡ Some u
       → members (received p (labels c)) ≡ take (length (answered (labels u.0))) (coming cells labels (port_of c p) u.0)
-  -- over an arc without a loaded value the turn of the block falls by the gate part and rises by the MERGE part; turns within are free
+  -- over an arc without a loaded value the turn of the block falls by the gate part and rises by the MERGE part; turns
+  -- within are free
   pub shifts : (p : ℕ) (u : CellId) → producer_of cells (port_of c p) ≡ Some u → loaded_at cells (port_of c p) ≡ None
-      → map (λ t. t + gate_part cells u.0) (block_turns (received p (labels c))) ≡ map (λ t. t + merge_part cells (port_of c p)) (block_turns (answered (labels u.0)))
+      → map (λ t. t + gate_part cells u.0) (block_turns (received p (labels c)))
+      ≡ map (λ t. t + merge_part cells (port_of c p)) (block_turns (answered (labels u.0)))
   -- the firings take what the kind wants
   pub wanted : AllByRecursion (IsWanted (cell_at cells c)) (labels c)
   -- those of the first n firings that take no nothing answer as the kind does
@@ -144,7 +153,8 @@ pub record MeetsAt (cells : List Cell) (inputs : List (List Value)) (n : ℕ) (l
   -- a cell without a limit that has fewer than n firings can't fire once more on what is left
   pub over : c < length cells → length (labels c) < n → limit (cell_at cells c).kind ≡ None → IsOver cells labels c
   -- a cell that feeds a port with a loaded value answers in each firing
-  pub steady : (d : Dest) → producer_of cells d ≡ Some (record { 0 = c }) → is_some (loaded_at cells d) ≡ true → AllByRecursion (λ f. is_some f.answer ≡ true) (labels c)
+  pub steady : (d : Dest) → producer_of cells d ≡ Some (record { 0 = c }) → is_some (loaded_at cells d) ≡ true
+      → AllByRecursion (λ f. is_some f.answer ≡ true) (labels c)
   -- a source or an OUT has all its firings
   pub counts : (m : ℕ) → limit (cell_at cells c).kind ≡ Some m → length (labels c) ≡ m
 
