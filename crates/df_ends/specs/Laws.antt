@@ -1,5 +1,5 @@
 -- How runs end, by labels of members with ranks; and labels of values, which are such labels for every number of firings.
-use Rattle.std.specs.Prelude.{◌≡◌, ◌<◌, ◌-◌, ◌⊎◌, ◌×◌, ℕ, true, List, [], ◌∷◌, get_or, length, map, None, Contains}
+use Rattle.std.specs.Prelude.{◌≡◌, ◌<◌, ◌-◌, ◌⊎◌, ℕ, true, List, [], ◌∷◌, get_or, length, map, None, Contains}
 use Rattle.df_values.specs.declared.values.Value.{Value}
 use Rattle.df_values.specs.Inputs.{AreValid}
 use Rattle.df_cells.specs.declared.cells.Cell.{Cell}

@@ -225,7 +225,7 @@ module _ (accounts : AccountsForValues) (once : FiresOncePerEvent) (cells : List
 -- ---- results
 
 -- an arc feeds the port of an OUT
-out_fed : (cells : List Cell) → WellFormed cells → (c k m : ℕ) → c < length cells
+pub out_fed : (cells : List Cell) → WellFormed cells → (c k m : ℕ) → c < length cells
     → (cell_at cells c).kind ≡ kind.Out k m → is_some (producer_of cells (port_of c 0)) ≡ true
 out_fed cells w c k m within is =
     let fed = (w.control c within).some (ap source_length is) in
@@ -241,7 +241,7 @@ out_fed cells w c k m within is =
     a_feed (Some feed) u h = (feed, refl)
 
 -- an OUT is a cell of the list
-out_within : (cells : List Cell) (c k m : ℕ) → (cell_at cells c).kind ≡ kind.Out k m → c < length cells
+pub out_within : (cells : List Cell) (c k m : ℕ) → (cell_at cells c).kind ≡ kind.Out k m → c < length cells
 out_within cells c k m is = elim (cases_lt c (length cells)) [
   | inl within ↦ within
   | inr past ↦ let e : kind.Out k m ≡ kind.Buf = sym is
