@@ -4,4 +4,5 @@ pub mod Order
 pub mod Lower
 pub mod Ends
 pub mod Good
--- pub mod OfValues
+pub mod OfValues
+pub mod Realized

@@ -1,4 +1,4 @@
-use Rattle.df_ends.proofs.OfValues.{ranks_of_values_are_ranks}
+use Rattle.df_ends.proofs.Realized.{ranks_of_values_are_ranks}
 use Rattle.df_ends.proofs.laws.ranks_of_values_are_ranks.Goals as goal
 
 pub returns : goal.returns

@@ -1,4 +1,4 @@
-use Rattle.df_ends.proofs.OfValues.{realizing_cells_realize_for_all}
+use Rattle.df_ends.proofs.Realized.{realizing_cells_realize_for_all}
 use Rattle.df_ends.proofs.laws.realizing_cells_realize_for_all.Goals as goal
 
 pub returns : goal.returns
