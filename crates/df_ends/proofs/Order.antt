@@ -1,11 +1,16 @@
 -- The order of ranks, and the least of the ranks of several cells.
-use Rattle.std.proofs.Common.{◌≡◌, ◌⊎◌, ◌<◌, ℕ, zero, suc, ◌==◌, Bool, true, false, nat_lt, ◌&&◌, ◌||◌, List, [], ◌∷◌, refl, sym, ◌∙◌, ap, subst, inl, inr, arith}
-use Rattle.std.proofs.lemmas.Bool.{cases_Bool, cases_eq, both_ways, eqb-true, eq-eqb, and_parts, and_cases, and_from, or_cases, or_left, or_right, and_right, or_from, lt-ltb, ltb-true, false_from_ne_true}
+use Rattle.std.proofs.Common.{◌≡◌, ◌⊎◌, ◌<◌, ℕ, zero, suc, ◌==◌, Bool, true, false, nat_lt, ◌&&◌, List, [], ◌∷◌, refl}
+use Rattle.std.proofs.Common.{sym, ◌∙◌, ap, subst, inl, inr, arith}
+use Rattle.std.proofs.lemmas.Bool.{cases_Bool, cases_eq, both_ways, eqb-true, eq-eqb, and_parts, and_cases, and_from}
+use Rattle.std.proofs.lemmas.Bool.{or_cases, or_left, or_right, and_right, or_from, lt-ltb, ltb-true}
+use Rattle.std.proofs.lemmas.Bool.{false_from_ne_true}
 use Rattle.df_ends.specs.Ranks.{is_lower, IsLower}
 
 pub lower_self : (r : List ℕ) → is_lower r r ≡ false
 lower_self [] = refl
-lower_self (a ∷ r) = or_from (nat_lt a a) ((a == a) && is_lower r r) (false_from_ne_true (nat_lt a a) (λ t. let l = ltb-true a a t in omega arith)) (and_right (a == a) (is_lower r r) (lower_self r))
+lower_self (a ∷ r) = or_from (nat_lt a a) ((a == a) && is_lower r r)
+    (false_from_ne_true (nat_lt a a) (λ t. let l = ltb-true a a t in omega arith))
+    (and_right (a == a) (is_lower r r) (lower_self r))
 
 pub lower_through : (r s t : List ℕ) → IsLower r s → IsLower s t → IsLower r t
 lower_through [] [] t x y = cc
@@ -18,7 +23,8 @@ lower_through (a ∷ r) (b ∷ s) (c ∷ t) x y =
     elim (or_cases (nat_lt a b) ((a == b) && is_lower r s) x) [
       | inl p ↦ let l = ltb-true a b p in elim (or_cases (nat_lt b c) ((b == c) && is_lower s t) y) [
         | inl q ↦ let m = ltb-true b c q in or_left (nat_lt a c) rest (lt-ltb a c (omega arith))
-        | inr q ↦ let e = eqb-true b c (and_parts (b == c) (is_lower s t) q).0 in or_left (nat_lt a c) rest (lt-ltb a c (omega arith))
+        | inr q ↦ let e = eqb-true b c (and_parts (b == c) (is_lower s t) q).0 in or_left (nat_lt a c) rest
+            (lt-ltb a c (omega arith))
       ]
       | inr p ↦
           let ab = and_parts (a == b) (is_lower r s) p in
@@ -28,7 +34,8 @@ lower_through (a ∷ r) (b ∷ s) (c ∷ t) x y =
             | inr q ↦
                 let bc = and_parts (b == c) (is_lower s t) q in
                 let f = eqb-true b c bc.0 in
-                or_right (nat_lt a c) rest (and_from (a == c) (is_lower r t) (eq-eqb a c (omega arith)) (lower_through r s t ab.1 bc.1))
+                or_right (nat_lt a c) rest (and_from (a == c) (is_lower r t) (eq-eqb a c (omega arith))
+                (lower_through r s t ab.1 bc.1))
           ]
     ]
 
@@ -36,7 +43,8 @@ lower_through (a ∷ r) (b ∷ s) (c ∷ t) x y =
 abbrev pub IsLeast : (ℕ → Bool) → (ℕ → List ℕ) → ℕ → ℕ → Type 0
 IsLeast p rank n m = (m < n) × (p m ≡ true) × ((d : ℕ) → d < n → p d ≡ true → is_lower (rank d) (rank m) ≡ false)
 
-pub least : (p : ℕ → Bool) (rank : ℕ → List ℕ) (n : ℕ) → ((c : ℕ) → c < n → p c ≡ false) ⊎ ((m : ℕ) × IsLeast p rank n m)
+pub least : (p : ℕ → Bool) (rank : ℕ → List ℕ) (n : ℕ) → ((c : ℕ) → c < n → p c ≡ false)
+    ⊎ ((m : ℕ) × IsLeast p rank n m)
 least p rank zero = inl (λ c l. absurd (omega arith))
 least p rank (suc n) = elim (least p rank n) [
   | inl none ↦ elim (cases_Bool (p n)) [
@@ -69,7 +77,8 @@ least p rank (suc n) = elim (least p rank n) [
                 λ d l h. elim (cases_eq d n) [
                   | inl same ↦ subst (λ x. is_lower (rank x) (rank n) ≡ false) (sym same) (lower_self (rank n))
                   | inr other ↦ false_from_ne_true (is_lower (rank d) (rank n))
-                      (λ q. both_ways (is_lower (rank d) (rank m)) (old.1.2 d (omega arith) h) (lower_through (rank d) (rank n) (rank m) q parts.1))
+                      (λ q. both_ways (is_lower (rank d) (rank m)) (old.1.2 d (omega arith) h)
+                      (lower_through (rank d) (rank n) (rank m) q parts.1))
                 ],
               ),
             )

@@ -1,5 +1,6 @@
 -- Ranks of the firings of labels of members: lists of numbers, compared at the first difference.
-use Rattle.std.specs.Prelude.{◌≡◌, ◌<◌, ◌+◌, ◌==◌, ◌&&◌, ◌||◌, ℕ, suc, nat_lt, Bool, true, false, List, [], ◌∷◌, length, take, Some, is_some}
+use Rattle.std.specs.Prelude.{◌≡◌, ◌<◌, ◌+◌, ◌==◌, ◌&&◌, ◌||◌, ℕ, suc, nat_lt, Bool, true, false, List, [], ◌∷◌}
+use Rattle.std.specs.Prelude.{length, take, Some, is_some}
 use Rattle.df_cells.specs.declared.cells.CellId.{CellId}
 use Rattle.df_cells.specs.declared.cells.Dest.{Dest}
 use Rattle.df_cells.specs.declared.cells.Cell.{Cell}
@@ -9,12 +10,14 @@ use Rattle.df_members.specs.Members.{Labels, answered, received}
 
 -- ---- firings that one member joins
 
--- Firing i of the producer answers the member that firing j of the consumer takes at the port: as many members were answered before the
--- one as were taken before the other, but for what was loaded.
+-- Firing i of the producer answers the member that firing j of the consumer takes at the port: as many members were
+-- answered before the one as were taken before the other, but for what was loaded.
 pub record Pairs (cells : List Cell) (labels : Labels) (d : Dest) (u i j : ℕ) : Type 0 where
   pub gives : length (answered (take (suc i) (labels u))) ≡ suc (length (answered (take i (labels u))))
-  pub takes : length (received d.port.0 (take (suc j) (labels d.cell.0))) ≡ suc (length (received d.port.0 (take j (labels d.cell.0))))
-  pub same : length (listed (loaded_at cells d)) + length (answered (take i (labels u))) ≡ length (received d.port.0 (take j (labels d.cell.0)))
+  pub takes : length (received d.port.0 (take (suc j) (labels d.cell.0)))
+      ≡ suc (length (received d.port.0 (take j (labels d.cell.0))))
+  pub same : length (listed (loaded_at cells d)) + length (answered (take i (labels u)))
+      ≡ length (received d.port.0 (take j (labels d.cell.0)))
 
 -- firing j takes the value that was loaded at the port
 pub record TakesLoaded (cells : List Cell) (labels : Labels) (d : Dest) (j : ℕ) : Type 0 where
@@ -39,10 +42,13 @@ pub record HasRanks (cells : List Cell) (labels : Labels) (rank : ℕ → ℕ �
   -- an earlier firing of the same cell
   pub rising : (c i j : ℕ) → i < j → j < length (labels c) → IsLower (rank c i) (rank c j)
   -- the firing that answers an operand
-  pub operands : (d : Dest) (u : CellId) (i j : ℕ) → producer_of cells d ≡ Some u → Pairs cells labels d u.0 i j → IsLower (rank u.0 i) (rank d.cell.0 j)
+  pub operands : (d : Dest) (u : CellId) (i j : ℕ) → producer_of cells d ≡ Some u → Pairs cells labels d u.0 i j
+      → IsLower (rank u.0 i) (rank d.cell.0 j)
   -- the firing that takes an answer of an earlier firing, and acknowledges it
-  pub acknowledgements : (d : Dest) (u : CellId) (i j k : ℕ) → producer_of cells d ≡ Some u → Pairs cells labels d u.0 i j
+  pub acknowledgements : (d : Dest) (u : CellId) (i j k : ℕ) → producer_of cells d ≡ Some u
+      → Pairs cells labels d u.0 i j
       → i < k → k < length (labels u.0) → IsLower (rank d.cell.0 j) (rank u.0 k)
   -- the firing that takes what was loaded, and acknowledges that
-  pub loads : (d : Dest) (u : CellId) (j k : ℕ) → producer_of cells d ≡ Some u → TakesLoaded cells labels d j → k < length (labels u.0)
+  pub loads : (d : Dest) (u : CellId) (j k : ℕ) → producer_of cells d ≡ Some u → TakesLoaded cells labels d j
+      → k < length (labels u.0)
       → IsLower (rank d.cell.0 j) (rank u.0 k)

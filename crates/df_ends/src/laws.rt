@@ -1,5 +1,7 @@
 //! How runs end.
-ghost use Rattle.df_ends.specs.Laws.{WaitsForLowerRank, EndsWhole, RealizingForAllIsFaithful, RealizingForAllIsGood, EndlessRunsGoOn, LabelsOfValuesMeet, RanksOfValuesAreRanks, RealizingCellsRealizeForAll, GoodForAllIsGood};
+ghost use Rattle.df_ends.specs.Laws.{WaitsForLowerRank, EndsWhole, EndlessRunsGoOn};
+ghost use Rattle.df_ends.specs.Laws.{RealizingForAllIsFaithful, RealizingForAllIsGood, GoodForAllIsGood};
+ghost use Rattle.df_ends.specs.Laws.{LabelsOfValuesMeet, RanksOfValuesAreRanks, RealizingCellsRealizeForAll};
 
 use df_histories::laws::{never_clashes, results_have_outputs};
 use df_labels::laws::{first_firings_agree, labels_give_histories};
