@@ -18,7 +18,7 @@ use Rattle.df_machine.specs.Events.{is_enabled, possible}
 use Rattle.df_machine.specs.Runs.{after, events}
 use Rattle.df_machine.specs.Laws.{NothingIsPossible}
 use Rattle.df_labels.proofs.Firings.{wants_first}
-use Rattle.df_members.specs.Members.{Member, Firing, Labels, LabelsMeet, IsWanted, sure, values, received, members}
+use Rattle.df_labels.specs.Members.{Member, Firing, Labels, LabelsMeet, IsWanted, sure, values, received, members}
 use Rattle.df_members.proofs.Following.{out_fed, out_within}
 use Rattle.df_members.specs.Laws.{FollowsMembers}
 use Rattle.df_ends.specs.Ranks.{is_lower, HasRanks}

@@ -14,10 +14,11 @@ use Rattle.df_machine.specs.Runs.{after, events}
 use Rattle.df_machine.specs.Laws.{HasAllResults}
 use Rattle.df_labels.specs.Histories.{IsPrefix}
 use Rattle.df_histories.specs.Laws.{NeverClashes, ResultsHaveOutputs}
-use Rattle.df_members.specs.Members.{Member, sure}
+use Rattle.df_labels.specs.Members.{Member, sure}
 use Rattle.df_members.specs.Laws.{FollowsMembers}
-use Rattle.df_ends.specs.Good.{MemberOutcome}
-use Rattle.df_ends.specs.Laws.{EndsWhole, RealizingForAllIsFaithful, RealizingForAllIsGood, EndlessRunsGoOn}
+use Rattle.df_labels.specs.ForAll.{MemberOutcome}
+use Rattle.df_ends.specs.Ranks.{rank_of}
+use Rattle.df_ends.specs.Laws.{EndsWhole, BalancedCellsHaveRanks, RealizingForAllIsFaithful, RealizingForAllIsGood, EndlessRunsGoOn}
 
 -- what holds at each OUT, and of nothing, holds of each result
 each_result : HasAllResults → ResultsHaveOutputs
@@ -52,20 +53,20 @@ realizing_for_all_is_faithful never follows all outs cells meaning w realizes = 
       ((follows cells inputs n t.labels choices w fits t.meet few).results c j m is)) k;
 }
 
-pub realizing_for_all_is_good : RealizingForAllIsFaithful → EndsWhole → HasAllResults → ResultsHaveOutputs
-    → RealizingForAllIsGood
-realizing_for_all_is_good faithful ends all outs cells meaning w realizes = record {
+pub realizing_for_all_is_good : RealizingForAllIsFaithful → BalancedCellsHaveRanks → EndsWhole → HasAllResults
+    → ResultsHaveOutputs → RealizingForAllIsGood
+realizing_for_all_is_good faithful ranks ends all outs cells meaning w balanced realizes = record {
   faithful = faithful cells meaning w realizes;
   whole = λ inputs choices n k fits few none.
       let t = realizes.tells inputs n fits in
       each_result all outs cells inputs choices (meaning inputs n) (λ l m. sure l ≡ m) w
       (realizes.outputs inputs n fits) refl
-      (λ c j m is. ((ends cells inputs n t.labels t.rank choices w fits t.meet t.ranked few none).1 c j m is).0
+      (λ c j m is. ((ends cells inputs n t.labels (rank_of cells t.labels t.placed.place) choices w fits t.meet (ranks cells inputs n t.labels w balanced t.meet t.placed) few none).1 c j m is).0
       ∙ t.whole c j m is) k;
   full = λ inputs choices c k m fits none is.
       let n = suc (events cells inputs choices) in
       let t = realizes.tells inputs n fits in
-      ((ends cells inputs n t.labels t.rank choices w fits t.meet t.ranked (omega arith) none).1 c k m is).1;
+      ((ends cells inputs n t.labels (rank_of cells t.labels t.placed.place) choices w fits t.meet (ranks cells inputs n t.labels w balanced t.meet t.placed) (omega arith) none).1 c k m is).1;
 }
 
 -- ---- results that are never whole

@@ -3,6 +3,7 @@ pub mod Streams
 pub mod Order
 pub mod Lower
 pub mod Ends
+pub mod Ranked
 pub mod Good
 pub mod OfValues
 pub mod Realized

@@ -21,10 +21,11 @@ use Rattle.df_machine.specs.Waiting.{Awaits, Lacks}
 use Rattle.df_machine.specs.Laws.{DisabledCellsWait}
 use Rattle.df_labels.specs.Histories.{listed}
 use Rattle.df_histories.specs.Traces.{arriving, finishing}
-use Rattle.df_members.specs.Members.{Member, Labels, LabelsMeet, sure, answered, received, members, coming, firing_at}
+use Rattle.df_labels.specs.Members.{Member, Labels, LabelsMeet, sure, answered, received, members, coming, firing_at}
 use Rattle.df_members.specs.Following.{Follows, fired_so_far}
 use Rattle.df_members.specs.Laws.{FollowsMembers}
-use Rattle.df_ends.specs.Ranks.{Pairs, is_lower, IsLower, HasRanks}
+use Rattle.df_labels.specs.Members.{Pairs}
+use Rattle.df_ends.specs.Ranks.{is_lower, IsLower, HasRanks}
 use Rattle.df_ends.specs.Laws.{WaitsForLowerRank}
 use Rattle.df_ends.proofs.Counting.{step, rises}
 use Rattle.df_ends.proofs.Streams.{size, size_next, size_here, size_all, size_most, size_each}

@@ -26,9 +26,9 @@ use Rattle.df_labels.specs.Histories.{listed, answer_at, given_from, IsRight}
 use Rattle.df_labels.specs.Labels as plain
 use Rattle.df_labels.specs.Laws.{LabelsGiveHistories, FirstFiringsAgree}
 use Rattle.df_labels.proofs.Firings.{given_append, wants_first}
-use Rattle.df_members.specs.Members.{Member, Firing, Stream, MeetsAt, IsWanted, at_turn, answered, received, members}
-use Rattle.df_members.specs.Members.{block_turns, sure, known, values, value_of, firing_at, left_from, left_at, coming}
-use Rattle.df_members.specs.Members.{in_order_from}
+use Rattle.df_labels.specs.Members.{Member, Firing, Stream, MeetsAt, IsWanted, at_turn, answered, received, members}
+use Rattle.df_labels.specs.Members.{block_turns, sure, as_member, values, value_of, firing_at, left_from, left_at, coming}
+use Rattle.df_labels.specs.Members.{in_order_from}
 use Rattle.df_members.proofs.Lifted.{lift_at, values_lift}
 use Rattle.df_ends.specs.OfValues.{firing_of, of_values}
 use Rattle.df_ends.specs.Laws.{LabelsOfValuesMeet}
@@ -39,7 +39,7 @@ use Rattle.df_ends.specs.Laws.{LabelsOfValuesMeet}
 abbrev pub stream_of : plain.Stream → Stream
 stream_of stream = map (λ x. (x.0, Some x.1)) stream
 
-at_known : (t : plain.Turn) (o : Option Value) → at_turn t (known o) ≡ stream_of (plain.at_turn t o)
+at_known : (t : plain.Turn) (o : Option Value) → at_turn t (as_member o) ≡ stream_of (plain.at_turn t o)
 at_known t None = refl
 at_known t (Some v) = refl
 
@@ -108,7 +108,7 @@ in_order i (v ∷ list) =
     ap (λ l. record { turn = i ∷ []; taken = per_port (λ p. None); answer = Some (Some v) } ∷ l)
     (in_order (i + 1) list)
 
-some_known : (o : Option Value) → is_some (known o) ≡ is_some o
+some_known : (o : Option Value) → is_some (as_member o) ≡ is_some o
 some_known None = refl
 some_known (Some v) = refl
 
@@ -118,7 +118,7 @@ wanted_of cell [] all = tt
 wanted_of cell (f ∷ label) all =
     let right = all.0 in
     let one : IsWanted cell (firing_of f) = record {
-      ports = length-map f.taken known ∙ ap (λ (x : Operands). length x) right.ports;
+      ports = length-map f.taken as_member ∙ ap (λ (x : Operands). length x) right.ports;
       takes = λ p. ap (λ (o : Option Member). is_some o) (lift_at f.taken p) ∙ some_known (get_or f.taken p None)
           ∙ right.takes p
           ∙ ap (λ x. is_some (cell_from (slice_get cell.ports p)) && wants cell.kind (with_constants cell x) p)
@@ -273,9 +273,9 @@ module _ (histories : LabelsGiveHistories) (agree : FirstFiringsAgree) (cells : 
         let here = firing_of_at (labels c) i (omega arith) in
         let f = get_or (labels c) i plain.no_firing in
         ap (λ (g : Firing). g.answer) here
-        ∙ ap known (sym (answer_is cells inputs labels agree meets c i (omega arith)))
-        ∙ ap (λ x. known (answer_at cells inputs i c x)) (sym (values_lift f.taken))
-        ∙ ap (λ (g : Firing). known (answer_at cells inputs i c (values g.taken))) (sym here);
+        ∙ ap as_member (sym (answer_is cells inputs labels agree meets c i (omega arith)))
+        ∙ ap (λ x. as_member (answer_at cells inputs i c x)) (sym (values_lift f.taken))
+        ∙ ap (λ (g : Firing). as_member (answer_at cells inputs i c (values g.taken))) (sym here);
     over = λ within few none.
         let it = always_wanted cells w c within none in
         record {

@@ -1,30 +1,24 @@
--- What labels of values say, said for every number of firings: ranks, what cells realize, and that they are good.
-use Rattle.std.proofs.Common.{◌≡◌, ℕ, zero, suc, ◌+◌, ◌-◌, ◌<◌, false, nat_lt, ◌==◌, ◌&&◌, List, [], ◌∷◌, ◌++◌, map}
-use Rattle.std.proofs.Common.{get_or, length, take, Option, Some, refl, sym, ◌∙◌, ap, arith}
-use Rattle.std.specs.Prelude.{is_some}
+-- What labels of values say, said for every number of firings: places, what cells realize, and that they are good.
+use Rattle.std.proofs.Common.{◌≡◌, ℕ, zero, suc, ◌+◌, ◌-◌, List, [], ◌∷◌, ◌++◌, map, get_or, length, take, Some}
+use Rattle.std.proofs.Common.{refl, sym, ◌∙◌, ap, inl, inr, arith}
+use Rattle.std.specs.List.{AllByRecursion}
 use Rattle.std.proofs.lemmas.List.{take-map, length-map}
-use Rattle.std.proofs.lemmas.Bool.{both_ways, or_left, lt-ltb}
 use Rattle.df_values.specs.declared.values.Value.{Value}
 use Rattle.df_cells.specs.declared.cells.Dest.{Dest}
 use Rattle.df_cells.specs.declared.cells.Cell.{Cell}
 use Rattle.df_cells.specs.Cells.{loaded_at}
 use Rattle.df_labels.specs.Histories.{listed, IsPrefix}
 use Rattle.df_labels.specs.Labels as plain
+use Rattle.df_labels.specs.Places as placed
 use Rattle.df_labels.specs.Realizes.{Outcome}
+use Rattle.df_labels.specs.Members.{Member, Firing, Pairs, firing_at, answered, received, members, sure}
+use Rattle.df_labels.specs.MemberPlaces.{HasPlaces}
 use Rattle.df_machine.specs.Runs.{after, events}
-use Rattle.df_rank.specs.Ranks.{rank}
-use Rattle.df_rank.specs.Laws.{BalancedCellsAreRanked}
-use Rattle.df_members.specs.Members.{Member, answered, received, members, sure}
-use Rattle.df_ends.specs.OfValues.{firing_of, of_values, one_number}
-use Rattle.df_ends.specs.Ranks.{IsLower, Pairs}
-use Rattle.df_ends.specs.Laws.{LabelsOfValuesMeet, RanksOfValuesAreRanks, RealizingCellsRealizeForAll}
-use Rattle.df_ends.specs.Laws.{GoodForAllIsGood}
+use Rattle.df_ends.specs.OfValues.{firing_of, of_values}
+use Rattle.df_ends.specs.Laws.{LabelsOfValuesMeet, RealizingCellsRealizeForAll, GoodForAllIsGood}
 use Rattle.df_ends.proofs.OfValues.{answered_of, received_of, members_of}
 
--- ---- ranks
-
-lower_number : (a b : ℕ) → a < b → IsLower (a ∷ []) (b ∷ [])
-lower_number a b less = or_left (nat_lt a b) ((a == b) && false) (lt-ltb a b less)
+-- ---- places
 
 answered_size : (label : List plain.Firing) (i : ℕ)
     → length (answered (take i (map firing_of label))) ≡ length (plain.answered (take i label))
@@ -49,21 +43,33 @@ pairs_of cells labels d u i j pairs = record {
       ∙ received_size d.port.0 (labels d.cell.0) j;
 }
 
-pub ranks_of_values_are_ranks : RanksOfValuesAreRanks
-ranks_of_values_are_ranks cells inputs labels rank meets ranked = record {
-  rising = λ c i j less within.
-      let size = length-map (labels c) firing_of in
-      lower_number (rank c i) (rank c j) (ranked.rising c i j less (omega (arith, within, size)));
-  operands = λ d u i j fed pairs. lower_number (rank u.0 i) (rank d.cell.0 j)
-      (ranked.operands d u i j fed (pairs_of cells labels d u.0 i j pairs));
-  acknowledgements = λ d u i j k fed pairs less within.
-      let size = length-map (labels u.0) firing_of in
-      lower_number (rank d.cell.0 j) (rank u.0 k)
-      (ranked.acknowledgements d u i j k fed (pairs_of cells labels d u.0 i j pairs) less
-      (omega (arith, within, size)));
-  loads = λ d u j k fed loaded within.
-      let none = (meets d.cell.0).unloaded d.port.0 in
-      absurd (both_ways (is_some (loaded_at cells d)) (ap (λ (o : Option Value). is_some o) none) loaded.some);
+turn_same : (label : List plain.Firing) (i : ℕ)
+    → (firing_at (map firing_of label) i).turn ≡ get_or (plain.turns_of label) i []
+turn_same [] i = refl
+turn_same (f ∷ label) zero = refl
+turn_same (f ∷ label) (suc i) = turn_same label i
+
+single_of : (label : List plain.Firing) → AllByRecursion (λ t. length t ≡ 1) (plain.turns_of label)
+    → AllByRecursion (λ (f : Firing). length f.turn ≡ 1) (map firing_of label)
+single_of [] all = tt
+single_of (f ∷ label) all = (all.0, single_of label all.1)
+
+-- so loops have places by these labels too
+places_of : (cells : List Cell) (inputs : List (List Value)) (labels : plain.Labels)
+    → plain.LabelsMeet cells inputs labels → placed.HasPlaces cells labels → HasPlaces cells (of_values labels)
+places_of cells inputs labels meets places = record {
+  place = places.place;
+  single = λ c. single_of (labels c) (meets c).single;
+  passing = λ d u i j fed marked same pairs.
+      let goes = places.passing d u i j fed marked same (pairs_of cells labels d u.0 i j pairs) in
+      let first = turn_same (labels u.0) i in
+      let second = turn_same (labels d.cell.0) j in
+      elim goes [
+        | inl still ↦ inl (ap plain.block_turn second ∙ still.0 ∙ sym (ap plain.block_turn first), still.1)
+        | inr next ↦ inr
+            (ap plain.block_turn second ∙ next.0 ∙ ap (λ t. plain.block_turn t + 1) (sym first), next.1)
+      ];
+  unloaded = λ d. (meets d.cell.0).unloaded d.port.0;
 }
 
 -- ---- what cells realize
@@ -74,9 +80,8 @@ result_of [] k = refl
 result_of (l ∷ outcome) zero = refl
 result_of (l ∷ outcome) (suc k) = result_of outcome k
 
-pub realizing_cells_realize_for_all : LabelsOfValuesMeet → RanksOfValuesAreRanks → BalancedCellsAreRanked
-    → RealizingCellsRealizeForAll
-realizing_cells_realize_for_all meet ranks balanced_ranks cells meaning w balanced realizes = record {
+pub realizing_cells_realize_for_all : LabelsOfValuesMeet → RealizingCellsRealizeForAll
+realizing_cells_realize_for_all meet cells meaning w realizes = record {
   outputs = λ inputs n fits. realizes.outputs inputs fits ∙ sym (length-map (meaning inputs) sure);
   tells = λ inputs n fits.
       let t = realizes.tells inputs fits in
@@ -86,9 +91,7 @@ realizing_cells_realize_for_all meet ranks balanced_ranks cells meaning w balanc
         whole = λ c k m is. ap (λ s. members s) (received_of 0 (t.labels c))
             ∙ members_of (plain.received 0 (t.labels c)) ∙ ap sure (t.whole c k m is)
             ∙ sym (result_of (meaning inputs) (k - 1));
-        rank = one_number (rank cells t.labels t.placed.place);
-        ranked = ranks cells inputs t.labels (rank cells t.labels t.placed.place) t.meet
-            (balanced_ranks cells inputs t.labels w balanced t.meet t.placed);
+        placed = places_of cells inputs t.labels t.meet t.placed;
       };
 }
 

@@ -6,7 +6,7 @@ use Rattle.std.specs.List.{AllByRecursion, flat_map}
 use Rattle.std.proofs.lemmas.List.{take_all}
 use Rattle.std.proofs.lemmas.Bool.{cases_lt}
 use Rattle.df_labels.specs.Labels.{Turn}
-use Rattle.df_members.specs.Members.{Member, Firing, at_turn}
+use Rattle.df_labels.specs.Members.{Member, Firing, at_turn}
 
 turn_le : (t : Turn) (o : Option Member) → length (at_turn t o) ≤ 1
 turn_le t None = omega arith

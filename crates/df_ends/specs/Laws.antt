@@ -12,13 +12,14 @@ use Rattle.df_labels.specs.Realizes.{Meaning, Realizes}
 use Rattle.df_machine.specs.Events.{possible, is_enabled}
 use Rattle.df_machine.specs.Runs.{after, events}
 use Rattle.df_machine.specs.States.{firings}
-use Rattle.df_members.specs.Members.{Labels, LabelsMeet, sure, received, members}
+use Rattle.df_labels.specs.Members.{Labels, LabelsMeet, sure, received, members}
 use Rattle.df_rank.specs.Good.{IsGood}
-use Rattle.df_rank.specs.Ranks.{IsRanked}
 use Rattle.df_stages.specs.Balance.{IsBalanced}
-use Rattle.df_ends.specs.OfValues.{of_values, one_number}
-use Rattle.df_ends.specs.Ranks.{HasRanks, IsLower}
-use Rattle.df_ends.specs.Good.{MeaningForAll, RealizesForAll, IsFaithfulForAll, IsGoodForAll, for_all}
+use Rattle.df_ends.specs.OfValues.{of_values}
+use Rattle.df_ends.specs.Ranks.{HasRanks, IsLower, rank_of}
+use Rattle.df_labels.specs.ForAll.{MeaningForAll, RealizesForAll, for_all}
+use Rattle.df_labels.specs.MemberPlaces.{HasPlaces}
+use Rattle.df_ends.specs.Good.{IsFaithfulForAll, IsGoodForAll}
 
 -- ---- how runs end
 
@@ -47,13 +48,19 @@ EndsWhole = (cells : List Cell) (inputs : List (List Value)) (n : ℕ) (labels :
     → (sure (get_or (after cells inputs choices).results (k - 1) []) ≡ members (received 0 (labels c)))
     × (length (get_or (after cells inputs choices).results (k - 1) []) ≡ m))
 
--- cells that realize a meaning for every number of firings are faithful to it, and good
+-- In balanced cells, where loops have places, what a firing waits for has a lower rank.
+abbrev pub BalancedCellsHaveRanks : Type 0
+BalancedCellsHaveRanks = (cells : List Cell) (inputs : List (List Value)) (n : ℕ) (labels : Labels)
+    → WellFormed cells → IsBalanced cells → LabelsMeet cells inputs n labels
+    → (places : HasPlaces cells labels) → HasRanks cells labels (rank_of cells labels places.place)
+
+-- Cells that realize a meaning for every number of firings are faithful to it, and balanced ones are good.
 abbrev pub RealizingForAllIsFaithful : Type 0
 RealizingForAllIsFaithful = (cells : List Cell) (meaning : MeaningForAll) → WellFormed cells
     → RealizesForAll cells meaning → IsFaithfulForAll cells meaning
 
 abbrev pub RealizingForAllIsGood : Type 0
-RealizingForAllIsGood = (cells : List Cell) (meaning : MeaningForAll) → WellFormed cells
+RealizingForAllIsGood = (cells : List Cell) (meaning : MeaningForAll) → WellFormed cells → IsBalanced cells
     → RealizesForAll cells meaning → IsGoodForAll cells meaning
 
 -- Where a result has a nothing for every number of turns, some event is possible after every run: none ends.
@@ -71,15 +78,9 @@ LabelsOfValuesMeet = (cells : List Cell) (inputs : List (List Value)) (labels : 
     → AreValid (declarations cells) inputs
     → plain.LabelsMeet cells inputs labels → (n : ℕ) → LabelsMeet cells inputs n (of_values labels)
 
--- their ranks, as lists of one number, are ranks of these
-abbrev pub RanksOfValuesAreRanks : Type 0
-RanksOfValuesAreRanks = (cells : List Cell) (inputs : List (List Value)) (labels : plain.Labels) (rank : ℕ → ℕ → ℕ)
-    → plain.LabelsMeet cells inputs labels
-    → IsRanked cells labels rank → HasRanks cells (of_values labels) (one_number rank)
-
--- so balanced cells that realize a meaning by values realize it for every number of firings
+-- so cells that realize a meaning by values realize it for every number of firings
 abbrev pub RealizingCellsRealizeForAll : Type 0
-RealizingCellsRealizeForAll = (cells : List Cell) (meaning : Meaning) → WellFormed cells → IsBalanced cells
+RealizingCellsRealizeForAll = (cells : List Cell) (meaning : Meaning) → WellFormed cells
     → Realizes cells meaning → RealizesForAll cells (for_all meaning)
 
 -- and cells that are good for every number of firings are good

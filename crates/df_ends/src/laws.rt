@@ -1,13 +1,13 @@
 //! How runs end.
 ghost use Rattle.df_ends.specs.Laws.{WaitsForLowerRank, EndsWhole, EndlessRunsGoOn};
 ghost use Rattle.df_ends.specs.Laws.{RealizingForAllIsFaithful, RealizingForAllIsGood, GoodForAllIsGood};
-ghost use Rattle.df_ends.specs.Laws.{LabelsOfValuesMeet, RanksOfValuesAreRanks, RealizingCellsRealizeForAll};
+ghost use Rattle.df_ends.specs.Laws.{BalancedCellsHaveRanks, LabelsOfValuesMeet, RealizingCellsRealizeForAll};
 
 use df_histories::laws::{never_clashes, results_have_outputs};
 use df_labels::laws::{first_firings_agree, labels_give_histories};
 use df_machine::laws::{disabled_cells_wait, has_all_results, nothing_is_possible};
 use df_members::laws::follows_members;
-use df_rank::laws::balanced_cells_are_ranked;
+use df_stages::laws::{heights_rise, heights_stay};
 
 /// A cell that is not enabled, where no packet is in flight, waits for a firing of lower rank.
 pub fn waits_for_lower_rank()
@@ -26,6 +26,14 @@ pub fn ends_whole()
     nothing_is_possible();
 }
 
+/// In balanced cells, where loops have places, firings have ranks.
+pub fn balanced_cells_have_ranks()
+    ensures { BalancedCellsHaveRanks }
+{
+    heights_rise();
+    heights_stay();
+}
+
 /// Cells that realize a meaning for every number of firings are faithful to it.
 pub fn realizing_for_all_is_faithful()
     ensures { RealizingForAllIsFaithful }
@@ -36,11 +44,12 @@ pub fn realizing_for_all_is_faithful()
     results_have_outputs();
 }
 
-/// And they are good.
+/// And balanced ones are good.
 pub fn realizing_for_all_is_good()
     ensures { RealizingForAllIsGood }
 {
     realizing_for_all_is_faithful();
+    balanced_cells_have_ranks();
     ends_whole();
     has_all_results();
     results_have_outputs();
@@ -59,18 +68,11 @@ pub fn labels_of_values_meet()
     first_firings_agree();
 }
 
-/// Ranks that are numbers are ranks.
-pub fn ranks_of_values_are_ranks()
-    ensures { RanksOfValuesAreRanks }
-{}
-
-/// Balanced cells that realize a meaning by values realize it for every number of firings.
+/// Cells that realize a meaning by values realize it for every number of firings.
 pub fn realizing_cells_realize_for_all()
     ensures { RealizingCellsRealizeForAll }
 {
     labels_of_values_meet();
-    ranks_of_values_are_ranks();
-    balanced_cells_are_ranked();
 }
 
 /// Cells that are good for every number of firings are good.

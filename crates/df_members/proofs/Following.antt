@@ -34,8 +34,8 @@ use Rattle.df_labels.proofs.Firings.{wants_control, wants_first, all_at}
 use Rattle.df_histories.specs.Traces.{Traced, noted, histories, writing, on_the_way}
 use Rattle.df_histories.specs.Laws.{AccountsForValues}
 use Rattle.df_histories.proofs.Delivers.{delivered_after}
-use Rattle.df_members.specs.Members.{Member, Firing, Labels, LabelsMeet, IsWanted, at_turn, answered, received}
-use Rattle.df_members.specs.Members.{members, value_of, sure, lift, takes_of, left_from, left_at, firing_at}
+use Rattle.df_labels.specs.Members.{Member, Firing, Labels, LabelsMeet, IsWanted, at_turn, answered, received}
+use Rattle.df_labels.specs.Members.{members, value_of, sure, lift, takes_of, left_from, left_at, firing_at}
 use Rattle.df_members.specs.Following.{Follows, fired_so_far}
 use Rattle.df_members.specs.Laws.{FollowsMembers}
 use Rattle.df_members.proofs.Lifted.{Split, split, head_is, received_lift}

@@ -7,8 +7,8 @@ use Rattle.df_values.specs.declared.values.Value.{Value}
 use Rattle.df_cells.specs.declared.cells.Cell.{Cell}
 use Rattle.df_cells.specs.Firings.{Operands}
 use Rattle.df_labels.specs.Histories.{listed, answer_at, given_from, took}
-use Rattle.df_members.specs.Members.{Member, Firing, at_turn, answered, received, members, value_of, values}
-use Rattle.df_members.specs.Members.{is_nothing, known, sure, lift, takes_of}
+use Rattle.df_labels.specs.Members.{Member, Firing, at_turn, answered, received, members, value_of, values}
+use Rattle.df_labels.specs.Members.{is_nothing, as_member, sure, lift, takes_of}
 
 pub head_is : {A : Type 0} (x y : A) (xs ys : List A) → x ∷ xs ≡ y ∷ ys → x ≡ y
 head_is x y xs ys e = cc
@@ -18,7 +18,7 @@ tail_is x y xs ys e = cc
 
 -- ---- operands as members
 
-pub lift_at : (x : Operands) (p : ℕ) → get_or (lift x) p None ≡ known (get_or x p None)
+pub lift_at : (x : Operands) (p : ℕ) → get_or (lift x) p None ≡ as_member (get_or x p None)
 lift_at [] p = refl
 lift_at (o ∷ x) zero = refl
 lift_at (o ∷ x) (suc p) = lift_at x p
@@ -28,7 +28,7 @@ values_at [] p = refl
 values_at (m ∷ y) zero = refl
 values_at (m ∷ y) (suc p) = values_at y p
 
-pub value_known : (o : Option Value) → value_of (known o) ≡ o
+pub value_known : (o : Option Value) → value_of (as_member o) ≡ o
 value_known None = refl
 value_known (Some v) = refl
 
@@ -37,7 +37,7 @@ values_lift [] = refl
 values_lift (o ∷ x) = let first = value_known o in let others = values_lift x in ap (λ a. a ∷ values (lift x)) first
     ∙ ap (λ l. o ∷ l) others
 
-no_nothing : (o : Option Value) → is_nothing (known o) ≡ false
+no_nothing : (o : Option Value) → is_nothing (as_member o) ≡ false
 no_nothing None = refl
 no_nothing (Some v) = refl
 
@@ -69,7 +69,7 @@ split f (y ∷ l) (x ∷ a) b e =
 
 -- ---- what firings of a run take and give
 
-member_at : (t : List ℕ) (o : Option Value) → members (at_turn t (known o)) ≡ sure (listed o)
+member_at : (t : List ℕ) (o : Option Value) → members (at_turn t (as_member o)) ≡ sure (listed o)
 member_at t None = refl
 member_at t (Some v) = refl
 
@@ -92,7 +92,7 @@ received_lift p (f ∷ fs) (x ∷ xs) e =
 abbrev pub AreRight : List Cell → List (List Value) → ℕ → ℕ → List Firing → Type 0
 AreRight cells inputs c i [] = Unit {0}
 AreRight cells inputs c i (f ∷ fs) =
-    (f.answer ≡ known (answer_at cells inputs i c (values f.taken))) × AreRight cells inputs c (i + 1) fs
+    (f.answer ≡ as_member (answer_at cells inputs i c (values f.taken))) × AreRight cells inputs c (i + 1) fs
 
 pub answered_lift : (cells : List Cell) (inputs : List (List Value)) (c i : ℕ) (fs : List Firing) (hs : List Operands)
     → takes_of fs ≡ map lift hs → AreRight cells inputs c i fs
@@ -107,7 +107,7 @@ answered_lift cells inputs c i (f ∷ fs) (x ∷ xs) e r =
     let given = answer_at cells inputs i c x in
     let here : members (at_turn f.turn f.answer) ≡ sure (listed given) =
     ap (λ o. members (at_turn f.turn o)) (r.0
-    ∙ ap (λ t. known (answer_at cells inputs i c t)) (ap values one ∙ values_lift x)) ∙ member_at f.turn given in
+    ∙ ap (λ t. as_member (answer_at cells inputs i c t)) (ap values one ∙ values_lift x)) ∙ member_at f.turn given in
     map-append (λ s. s.1) (at_turn f.turn f.answer) (answered fs)
     ∙ ap (λ l. l ++ members (answered fs)) here ∙ ap (λ l. sure (listed given) ++ l) others
     ∙ sym (map-append (λ v. Some v) (listed given) (given_from cells inputs c (i + 1) xs))

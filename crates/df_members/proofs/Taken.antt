@@ -24,9 +24,9 @@ use Rattle.df_machine.specs.Events.{taken}
 use Rattle.df_labels.specs.Histories.{Histories, listed, answer_at, given_from, supply, took, IsPrefix, IsRight}
 use Rattle.df_labels.proofs.Firings.{wants_control, wants_first}
 use Rattle.df_histories.specs.Traces.{Traced, arriving, finishing}
-use Rattle.df_members.specs.Members.{Member, Firing, Labels, LabelsMeet, IsWanted, IsSure, is_nothing, at_turn}
-use Rattle.df_members.specs.Members.{answered, received, members, value_of, values, known, sure, lift, takes_of}
-use Rattle.df_members.specs.Members.{coming, firing_at}
+use Rattle.df_labels.specs.Members.{Member, Firing, Labels, LabelsMeet, IsWanted, IsSure, is_nothing, at_turn}
+use Rattle.df_labels.specs.Members.{answered, received, members, value_of, values, as_member, sure, lift, takes_of}
+use Rattle.df_labels.specs.Members.{coming, firing_at}
 use Rattle.df_members.proofs.Lifted.{split, head_is, values_at, value_known, sure_lift, received_lift, answered_lift}
 use Rattle.df_members.proofs.Lifted.{AreRight}
 use Rattle.df_members.proofs.Runs.{place_of_taken}
@@ -67,8 +67,8 @@ right_from cells inputs n labels u meets before (f ∷ fs) behind (x ∷ xs) e t
     (subst (λ l. AllByRecursion (λ m. is_nothing m ≡ false) l) (sym one) (sure_lift x)) in
     let now = (meets u).right i (omega arith) (omega arith) safe in
     let here' : f.answer
-    ≡ known (answer_at cells inputs i u (values f.taken)) = subst
-    (λ (g : Firing). g.answer ≡ known (answer_at cells inputs i u (values g.taken))) here now in
+    ≡ as_member (answer_at cells inputs i u (values f.taken)) = subst
+    (λ (g : Firing). g.answer ≡ as_member (answer_at cells inputs i u (values g.taken))) here now in
     let longer = length-append before (f ∷ []) in
     let next : length (before ++ f ∷ []) ≡ i + 1 = omega (arith, longer) in
     let others = right_from cells inputs n labels u meets (before ++ f ∷ []) fs behind xs (e
@@ -196,7 +196,7 @@ same_member cells inputs n labels s h followed c p fr gs g v w e front wanted ev
     same_next known' w (Some v) (members (received p gs) ++ drop a all) nx.rest (sym whole ∙ nx.whole)
 
 both : (o : Option Value) (m : Option Member) → is_some o ≡ is_some m
-    → ((v : Value) (w : Member) → o ≡ Some v → m ≡ Some w → w ≡ Some v) → known o ≡ m
+    → ((v : Value) (w : Member) → o ≡ Some v → m ≡ Some w → w ≡ Some v) → as_member o ≡ m
 both None None h a = refl
 both None (Some w) h a = cc
 both (Some v) None h a = cc
@@ -227,8 +227,8 @@ same_taken cell x g right wanted agree =
     (wants_control cell.kind (with_constants cell x) (with_constants cell (values y)) p control)
     ∙ sym (wanted.takes p)) (agree p) in
     let triple = λ (a b c : Option Member). a ∷ b ∷ c ∷ [] in
-    ap lift right.ports ∙ ap (λ a. triple a (known (get_or x 1 None)) (known (get_or x 2 None))) (each 0)
-    ∙ ap (λ b. triple (get_or y 0 None) b (known (get_or x 2 None))) (each 1)
+    ap lift right.ports ∙ ap (λ a. triple a (as_member (get_or x 1 None)) (as_member (get_or x 2 None))) (each 0)
+    ∙ ap (λ b. triple (get_or y 0 None) b (as_member (get_or x 2 None))) (each 1)
     ∙ ap (λ c. triple (get_or y 0 None) (get_or y 1 None) c) (each 2) ∙ sym (three_of y wanted.ports)
 
 -- ---- what the cell wants now, the next firing takes

@@ -12,7 +12,7 @@ use Rattle.df_labels.specs.Histories.{listed, IsPrefix}
 use Rattle.df_machine.specs.Runs.{after}
 use Rattle.df_machine.specs.States.{row, firings}
 use Rattle.df_histories.specs.Traces.{histories, on_the_way}
-use Rattle.df_members.specs.Members.{Firing, Labels, sure, lift, takes_of, firing_at, answered, received, members}
+use Rattle.df_labels.specs.Members.{Firing, Labels, sure, lift, takes_of, firing_at, answered, received, members}
 
 -- the first firings of the label of a cell, as many as the cell has had after these choices
 abbrev pub fired_so_far : List Cell → List (List Value) → List ℕ → Labels → ℕ → List Firing

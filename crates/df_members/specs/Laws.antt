@@ -6,7 +6,7 @@ use Rattle.df_cells.specs.declared.cells.Cell.{Cell}
 use Rattle.df_cells.specs.Cells.{declarations}
 use Rattle.df_cells.specs.WellFormed.{WellFormed}
 use Rattle.df_machine.specs.Runs.{events}
-use Rattle.df_members.specs.Members.{Labels, LabelsMeet}
+use Rattle.df_labels.specs.Members.{Labels, LabelsMeet}
 use Rattle.df_members.specs.Following.{Follows}
 
 -- A run of fewer than n events follows all labels that meet the cells, the inputs and n.

@@ -3,5 +3,5 @@ use Rattle.df_ends.proofs.laws.realizing_for_all_is_good.Goals as goal
 
 pub returns : goal.returns
 returns c = realizing_for_all_is_good
-    c.realizing_for_all_is_faithful.ensures c.ends_whole.ensures
+    c.realizing_for_all_is_faithful.ensures c.balanced_cells_have_ranks.ensures c.ends_whole.ensures
     c.has_all_results.ensures c.results_have_outputs.ensures

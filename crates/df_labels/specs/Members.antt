@@ -1,10 +1,11 @@
 -- Labels of members: for each cell its firings, where what is taken and answered is a value or nothing. Nothing stands
 -- for a value that never comes, as that of a loop which is given out after so many turns. Such labels are whole:
 -- on each arc all that is answered is taken.
-use Rattle.std.specs.Prelude.{◌≡◌, ◌<◌, ◌+◌, ℕ, Bool, true, false, ◌&&◌, List, [], ◌∷◌, ◌++◌, map, get_or, length}
+use Rattle.std.specs.Prelude.{◌≡◌, ◌<◌, ◌+◌, ℕ, suc, Bool, true, false, ◌&&◌, List, [], ◌∷◌, ◌++◌, map, get_or, length}
 use Rattle.std.specs.Prelude.{slice_get, take, Option, Some, None, is_some}
 use Rattle.std.specs.List.{AllByRecursion, flat_map}
 use Rattle.df_values.specs.declared.values.Value.{Value}
+pub use Rattle.df_partial.specs.Members.{Member}
 use Rattle.df_cells.specs.declared.cells.CellId.{CellId}
 use Rattle.df_cells.specs.declared.cells.Dest.{Dest}
 use Rattle.df_cells.specs.declared.cells.Cell.{Cell}
@@ -17,18 +18,14 @@ use Rattle.df_labels.specs.Labels.{Turn, AreRising, block_turn, source_values}
 
 -- ---- members
 
--- a value, or nothing
-abbrev pub Member : Type 0
-Member = Option Value
-
 -- these values, as members
 abbrev pub sure : List Value → List Member
 sure values = map (λ v. Some v) values
 
 -- the member that is this value, where there is one
-abbrev pub known : Option Value → Option Member
-known None = None
-known (Some v) = Some (Some v)
+abbrev pub as_member : Option Value → Option Member
+as_member None = None
+as_member (Some v) = Some (Some v)
 
 -- the value of what is taken: none where nothing is taken, and where what is taken is nothing
 abbrev pub value_of : Option Member → Option Value
@@ -41,7 +38,7 @@ is_nothing _ = false
 
 -- operands, as members, and the values among members
 abbrev pub lift : Operands → List (Option Member)
-lift x = map known x
+lift x = map as_member x
 
 abbrev pub values : List (Option Member) → Operands
 values x = map value_of x
@@ -149,7 +146,7 @@ pub record MeetsAt (cells : List Cell) (inputs : List (List Value)) (n : ℕ) (l
   pub wanted : AllByRecursion (IsWanted (cell_at cells c)) (labels c)
   -- those of the first n firings that take no nothing answer as the kind does
   pub right : (i : ℕ) → i < n → i < length (labels c) → IsSure (firing_at (labels c) i)
-      → (firing_at (labels c) i).answer ≡ known (answer_at cells inputs i c (values (firing_at (labels c) i).taken))
+      → (firing_at (labels c) i).answer ≡ as_member (answer_at cells inputs i c (values (firing_at (labels c) i).taken))
   -- a cell without a limit that has fewer than n firings can't fire once more on what is left
   pub over : c < length cells → length (labels c) < n → limit (cell_at cells c).kind ≡ None → IsOver cells labels c
   -- a cell that feeds a port with a loaded value answers in each firing
@@ -161,3 +158,23 @@ pub record MeetsAt (cells : List Cell) (inputs : List (List Value)) (n : ℕ) (l
 -- labels meet the cells, the inputs and n where that of each cell does
 abbrev pub LabelsMeet : List Cell → List (List Value) → ℕ → Labels → Type 0
 LabelsMeet cells inputs n labels = (c : ℕ) → MeetsAt cells inputs n labels c
+
+-- ---- firings that one member joins
+
+-- Firing i of the producer answers the member that firing j of the consumer takes at the port: as many members were
+-- answered before the one as were taken before the other, but for what was loaded.
+pub record Pairs (cells : List Cell) (labels : Labels) (d : Dest) (u i j : ℕ) : Type 0 where
+  pub gives : length (answered (take (suc i) (labels u))) ≡ suc (length (answered (take i (labels u))))
+  pub takes : length (received d.port.0 (take (suc j) (labels d.cell.0)))
+      ≡ suc (length (received d.port.0 (take j (labels d.cell.0))))
+  pub same : length (listed (loaded_at cells d)) + length (answered (take i (labels u)))
+      ≡ length (received d.port.0 (take j (labels d.cell.0)))
+
+-- firing j takes the value that was loaded at the port
+pub record TakesLoaded (cells : List Cell) (labels : Labels) (d : Dest) (j : ℕ) : Type 0 where
+  pub some : is_some (loaded_at cells d) ≡ true
+  pub takes : length (received d.port.0 (take (suc j) (labels d.cell.0))) ≡ 1
+  pub first : length (received d.port.0 (take j (labels d.cell.0))) ≡ 0
+
+abbrev pub turn_at : Labels → ℕ → ℕ → Turn
+turn_at labels c i = (firing_at (labels c) i).turn
