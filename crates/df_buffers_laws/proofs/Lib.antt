@@ -11,7 +11,6 @@ pub mod Counts
 pub mod Order
 pub mod Streams
 pub mod Arcs
-pub mod Late
 pub mod KindSums
 pub mod Labelled
 pub mod NodeCounts

@@ -1,6 +1,7 @@
 -- Cells that realize a meaning realize it with BUF cells on their arcs too.
-use Rattle.std.proofs.Common.{◌≡◌, ◌≢◌, ◌⊎◌, ℕ, suc, ◌+◌, ◌-◌, ◌<◌, ◌≤◌, ◌==◌, cond, List, [], length, map, take, get_or, Some, inl, inr, sym, ap, subst, ◌∙◌}
-use Rattle.std.proofs.lemmas.Bool.{cases_lt, cases_eq, ne_eqb}
+use Rattle.std.proofs.Common.{◌≡◌, ◌≢◌, ◌⊎◌, ℕ, suc, ◌+◌, ◌-◌, ◌<◌, ◌≤◌, List, [], length, map, take, get_or, Some, None, inl, inr, sym, ap, subst, ◌∙◌}
+use Rattle.std.specs.List.{AllByRecursion}
+use Rattle.std.proofs.lemmas.Bool.{cases_lt}
 use Rattle.std.proofs.lemmas.List.{get_or_past}
 use Rattle.df_values.specs.declared.values.Value.{Value}
 use Rattle.df_values.specs.Inputs.{AreValid}
@@ -12,18 +13,18 @@ use Rattle.df_cells.specs.declared.kinds.Kind.TheVariants as kind
 use Rattle.df_cells.specs.Cells.{no_cell, cell_at, cell_from, loaded_from, feed_of, loaded_at, producer_of, inputs_of, declaration_of, declarations, outputs}
 use Rattle.df_cells.specs.Paths.{mark_of}
 use Rattle.df_labels.specs.Histories.{listed}
-use Rattle.df_labels.specs.Labels.{Firing, Labels, LabelsMeet, Pairs, turns_of, block_turn, answered, received, stream_values}
-use Rattle.df_labels.specs.Places.{loop_size, HasPlaces}
-use Rattle.df_labels.specs.Realizes.{Outcome, Meaning, IsAll, Tells, Realizes}
+use Rattle.df_labels.specs.Labels.{block_turn}
+use Rattle.df_labels.specs.Members.{Firing, Labels, LabelsMeet, AreLate, Pairs, firing_at, answered, received, members}
+use Rattle.df_labels.specs.MemberPlaces.{HasPlaces}
+use Rattle.df_labels.specs.ForAll.{MemberOutcome, MeaningForAll, TellsFor, RealizesForAll}
 use Rattle.df_buffers_laws.specs.Carried.{carried}
-use Rattle.df_buffers_laws.proofs.KindSums.{whole_sum}
 use Rattle.df_buffers_laws.proofs.Labelled.{old_label}
 
 -- how a value passes between firings of these labels
 abbrev Goes : (ℕ → ℕ) → List Firing → List Firing → ℕ → ℕ → ℕ → ℕ → Type 0
 Goes place first second u v i j =
-    ((block_turn (get_or (turns_of second) j []) ≡ block_turn (get_or (turns_of first) i [])) × (place u < place v))
-    ⊎ ((block_turn (get_or (turns_of second) j []) ≡ block_turn (get_or (turns_of first) i []) + 1) × (place v < place u))
+    ((block_turn ((firing_at second j).turn) ≡ block_turn ((firing_at first i).turn)) × (place u < place v))
+    ⊎ ((block_turn ((firing_at second j).turn) ≡ block_turn ((firing_at first i).turn) + 1) × (place v < place u))
 
 module _ (old new : List Cell) (marks : (c : ℕ) → mark_of new c ≡ mark_of old c) (few : length old ≤ length new)
     (inputs_stay : inputs_of new ≡ inputs_of old) (outputs_stay : outputs new ≡ outputs old)
@@ -31,8 +32,12 @@ module _ (old new : List Cell) (marks : (c : ℕ) → mark_of new c ≡ mark_of 
     → feed_of new d ≡ feed_of old d)
     (results_stay : (labels : Labels) (c k n : ℕ) → (cell_at new c).kind ≡ kind.Out k n
     → ((cell_at old c).kind ≡ kind.Out k n) × (carried old new labels c ≡ labels c))
-    (labelled : (inputs : List (List Value)) (labels : Labels) → LabelsMeet old inputs labels
-    → LabelsMeet new inputs (carried old new labels)) where
+    (labelled : (inputs : List (List Value)) (n : ℕ) (labels : Labels) → LabelsMeet old inputs n labels
+    → AreLate old labels → LabelsMeet new inputs n (carried old new labels))
+    (lates : (labels : Labels) → AreLate old labels → AreLate new (carried old new labels))
+    (single : (labels : Labels) → ((c : ℕ) → AllByRecursion (λ (f : Firing). length f.turn ≡ 1) (labels c))
+    → (c : ℕ) → AllByRecursion (λ (f : Firing). length f.turn ≡ 1) (carried old new labels c))
+    (unloaded : ((d : Dest) → loaded_at old d ≡ None) → (d : Dest) → loaded_at new d ≡ None) where
   -- ---- loops
 
   marked_inside : (c : ℕ) → mark_of new c ≢ 0 → c < length old
@@ -41,24 +46,12 @@ module _ (old new : List Cell) (marks : (c : ℕ) → mark_of new c ≡ mark_of 
     | inr behind ↦ absurd (some (marks c ∙ ap (λ (cell : Cell). cell.mark) (get_or_past old c no_cell behind)))
   ]
 
-  -- BUF cells are on no loop
-  sizes_stay : (mark : ℕ) → loop_size new mark ≡ loop_size old mark
-  sizes_stay mark = elim (cases_eq mark 0) [
-    | inl none ↦ ap (loop_size new) none ∙ sym (ap (loop_size old) none)
-    | inr some ↦ ap (λ n. cond (mark == 0) 1 n) (whole_sum (λ cell. cond (cell.mark == mark) 1 0) old new few
-        (λ c h. ap (λ m. cond (m == mark) 1 0) (marks c))
-        (λ b behind h.
-        let none = marks b ∙ ap (λ (cell : Cell). cell.mark) (get_or_past old b no_cell behind) in
-        ap (λ m. cond (m == mark) 1 0) none ∙ ap (λ t. cond t 1 0) (ne_eqb 0 mark (λ e. some (sym e)))))
-  ]
-
   module _ (labels : Labels) (places : HasPlaces old labels) where
     pub places_stay : HasPlaces new (carried old new labels)
     places_stay = record {
       place = places.place;
-      within = λ c.
-          subst (λ n. places.place c < n) (sym (sizes_stay (mark_of new c) ∙ ap (loop_size old) (marks c)))
-          (places.within c);
+      single = single labels places.single;
+      unloaded = unloaded places.unloaded;
       passing = λ d u i j fed some same pairs.
           let other : mark_of new d.cell.0 ≢ 0 = λ none. some (same ∙ none) in
           let feed = loops_stay d u fed some other in
@@ -86,23 +79,25 @@ module _ (old new : List Cell) (marks : (c : ℕ) → mark_of new c ≡ mark_of 
   same_declarations : declarations new ≡ declarations old
   same_declarations = ap (λ (l : List InputDecl). map declaration_of l) inputs_stay
 
-  still_tell : (inputs : List (List Value)) (outcome : Outcome) → Tells old inputs outcome → Tells new inputs outcome
-  still_tell inputs outcome tells = record {
+  still_tell : (inputs : List (List Value)) (n : ℕ) (outcome : MemberOutcome) → TellsFor old inputs n outcome
+      → TellsFor new inputs n outcome
+  still_tell inputs n outcome tells = record {
     labels = carried old new tells.labels;
-    meet = labelled inputs tells.labels tells.meet;
-    whole = λ c k n out.
-        let was = results_stay tells.labels c k n out in
-        subst (λ (l : List Firing). IsAll (stream_values (received 0 l)) outcome (k - 1)) (sym was.1)
-        (tells.whole c k n was.0);
+    meet = labelled inputs n tells.labels tells.meet tells.late;
+    whole = λ c k m out.
+        let was = results_stay tells.labels c k m out in
+        subst (λ (l : List Firing). members (received 0 l) ≡ get_or outcome (k - 1) []) (sym was.1)
+        (tells.whole c k m was.0);
     placed = places_stay tells.labels tells.placed;
+    late = lates tells.labels tells.late;
   }
 
-  pub still_realize : (meaning : Meaning) → Realizes old meaning → Realizes new meaning
+  pub still_realize : (meaning : MeaningForAll) → RealizesForAll old meaning → RealizesForAll new meaning
   still_realize meaning realizes = record {
     outputs =
-        λ inputs valid. outputs_stay
-        ∙ realizes.outputs inputs (subst (λ ds. AreValid ds inputs) same_declarations valid);
-    tells = λ inputs valid.
-        still_tell inputs (meaning inputs)
-        (realizes.tells inputs (subst (λ ds. AreValid ds inputs) same_declarations valid));
+        λ inputs n valid. outputs_stay
+        ∙ realizes.outputs inputs n (subst (λ ds. AreValid ds inputs) same_declarations valid);
+    tells = λ inputs n valid.
+        still_tell inputs n (meaning inputs n)
+        (realizes.tells inputs n (subst (λ ds. AreValid ds inputs) same_declarations valid));
   }

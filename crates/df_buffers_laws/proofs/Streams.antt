@@ -1,53 +1,52 @@
 -- Streams that go on unchanged, so many turns earlier.
-use Rattle.std.proofs.Common.{◌≡◌, ℕ, ◌+◌, nat_lt, eqb, ◌||◌, ◌&&◌, List, [], ◌∷◌, ◌++◌, map, length, Option, Some, None, refl, sym, ap, ◌∙◌, inl, inr, arith}
+use Rattle.std.proofs.Common.{◌≡◌, ℕ, ◌+◌, ◌-◌, ◌≤◌, nat_lt, eqb, ◌||◌, ◌&&◌, List, [], ◌∷◌, ◌++◌, map, length, Option, Some, None, refl, sym, ap, ◌∙◌, inl, inr, arith}
 use Rattle.std.specs.Prelude.{IsTrue}
 use Rattle.std.specs.List.{AllByRecursion}
 use Rattle.std.proofs.lemmas.Bool.{cases_lt, cases_eq, lt-ltb, le-ltb, eq-eqb, ne_eqb}
-use Rattle.df_values.specs.declared.values.Value.{Value}
-use Rattle.df_labels.specs.Labels.{Turn, Firing, Stream, later, is_earlier, AreRising, turns_of, stream_turns, stream_values, at_turn, answered, received}
+use Rattle.df_labels.specs.Labels.{Turn, later, is_earlier, AreRising, block_turn}
+use Rattle.df_labels.specs.Members.{Member, Firing, Stream, at_turn, answered, received, members, block_turns}
 use Rattle.df_buffers_laws.specs.Carried.{earlier, pass}
 
 -- ---- later turns
 
 -- the turn is not among the first g
 abbrev pub IsLate : ℕ → Turn → Type 0
-IsLate g t = later g (earlier g t) ≡ t
+IsLate g t = g ≤ block_turn t
 
-pub later_zero : (t : Turn) → later 0 t ≡ t
-later_zero [] = refl
-later_zero (i ∷ t) = let e : i + 0 ≡ i = omega arith in ap (λ k. k ∷ t) e
+later_earlier : (g : ℕ) (t : Turn) → IsLate g t → later g (earlier g t) ≡ t
+later_earlier g [] h = refl
+later_earlier g (i ∷ t) h = let e : i - g + g ≡ i = omega arith in ap (λ k. k ∷ t) e
 
-pub later_sum : (a b : ℕ) (t : Turn) → later b (later a t) ≡ later (a + b) t
-later_sum a b [] = refl
-later_sum a b (i ∷ t) = let e : i + a + b ≡ i + (a + b) = omega arith in ap (λ k. k ∷ t) e
+earlier_number : (g : ℕ) (t : Turn) → IsLate g t → block_turn (earlier g t) + g ≡ block_turn t
+earlier_number g [] h = omega arith
+earlier_number g (i ∷ t) h = omega arith
 
-same_turn : (g : ℕ) (s t : Turn) → later g s ≡ later g t → s ≡ t
-same_turn g [] [] e = refl
-same_turn g [] (j ∷ t) e = absurd (cc)
-same_turn g (i ∷ s) [] e = absurd (cc)
-same_turn g (i ∷ s) (j ∷ t) e =
-    let head : i + g ≡ j + g = cc in
-    let tail : s ≡ t = cc in
-    let one : i ≡ j = omega arith in cc
+-- ---- numbers of turns
 
-pub zeros : (ts : List Turn) → map (later 0) ts ≡ ts
+abbrev pub added : ℕ → List ℕ → List ℕ
+added g ts = map (λ t. t + g) ts
+
+pub zeros : (ts : List ℕ) → added 0 ts ≡ ts
 zeros [] = refl
-zeros (t ∷ ts) = ap (λ s. s ∷ map (later 0) ts) (later_zero t) ∙ ap (λ l. t ∷ l) (zeros ts)
+zeros (t ∷ ts) = let e : t + 0 ≡ t = omega arith in ap (λ s. s ∷ added 0 ts) e ∙ ap (λ l. t ∷ l) (zeros ts)
 
-pub sums : (a b : ℕ) (ts : List Turn) → map (later b) (map (later a) ts) ≡ map (later (a + b)) ts
+pub sums : (a b : ℕ) (ts : List ℕ) → added b (added a ts) ≡ added (a + b) ts
 sums a b [] = refl
 sums a b (t ∷ ts) =
-    ap (λ s. s ∷ map (later b) (map (later a) ts)) (later_sum a b t) ∙ ap (λ l. later (a + b) t ∷ l) (sums a b ts)
+    let e : t + a + b ≡ t + (a + b) = omega arith in
+    ap (λ s. s ∷ added b (added a ts)) e ∙ ap (λ l. (t + (a + b)) ∷ l) (sums a b ts)
 
-pub same_turns : (g : ℕ) (ss ts : List Turn) → map (later g) ss ≡ map (later g) ts → ss ≡ ts
-same_turns g [] [] e = refl
-same_turns g [] (t ∷ ts) e = absurd (cc)
-same_turns g (s ∷ ss) [] e = absurd (cc)
-same_turns g (s ∷ ss) (t ∷ ts) e =
-    let head : later g s ≡ later g t = cc in
-    let tail : map (later g) ss ≡ map (later g) ts = cc in
-    let one = same_turn g s t head in
-    let rest = same_turns g ss ts tail in cc
+pub same_added : (g : ℕ) (ss ts : List ℕ) → added g ss ≡ added g ts → ss ≡ ts
+same_added g [] [] e = refl
+same_added g [] (t ∷ ts) e = absurd (cc)
+same_added g (s ∷ ss) [] e = absurd (cc)
+same_added g (s ∷ ss) (t ∷ ts) e =
+    let head : s + g ≡ t + g = cc in
+    let tail : added g ss ≡ added g ts = cc in
+    let one : s ≡ t = omega (arith, head) in
+    ap (λ k. k ∷ ss) one ∙ ap (λ l. t ∷ l) (same_added g ss ts tail)
+
+-- ---- turns that rise
 
 lt_later : (g i j : ℕ) → nat_lt (i + g) (j + g) ≡ nat_lt i j
 lt_later g i j = elim (cases_lt i j) [
@@ -92,7 +91,13 @@ single_back g ts all =
 
 -- ---- the turns of answers are among those of firings
 
-all_rest : (P : Turn → Type 0) (t : Turn) (o : Option Value) (rest : Stream) → P t
+abbrev pub turns_of : List Firing → List Turn
+turns_of label = map (λ f. f.turn) label
+
+abbrev pub stream_turns : Stream → List Turn
+stream_turns stream = map (λ x. x.0) stream
+
+all_rest : (P : Turn → Type 0) (t : Turn) (o : Option Member) (rest : Stream) → P t
     → AllByRecursion P (stream_turns rest) → AllByRecursion P (stream_turns (at_turn t o ++ rest))
 all_rest P t None rest here all = all
 all_rest P t (Some v) rest here all = (here, all)
@@ -102,7 +107,7 @@ pub all_answered : (P : Turn → Type 0) (label : List Firing) → AllByRecursio
 all_answered P [] all = tt
 all_answered P (f ∷ label) all = all_rest P f.turn f.answer (answered label) all.0 (all_answered P label all.1)
 
-rising_rest : (t : Turn) (o : Option Value) (rest : Stream)
+rising_rest : (t : Turn) (o : Option Member) (rest : Stream)
     → AllByRecursion (λ u. IsTrue (is_earlier t u)) (stream_turns rest) → AreRising (stream_turns rest)
     → AreRising (stream_turns (at_turn t o ++ rest))
 rising_rest t None rest here all = all
@@ -116,9 +121,9 @@ rising_answered (f ∷ label) rising =
 
 -- ---- firings that pass a stream on
 
-pub passed_values : (g : ℕ) (s : Stream) → stream_values (answered (map (pass g) s)) ≡ stream_values s
-passed_values g [] = refl
-passed_values g (x ∷ s) = ap (λ l. x.1 ∷ l) (passed_values g s)
+pub passed_members : (g : ℕ) (s : Stream) → members (answered (map (pass g) s)) ≡ members s
+passed_members g [] = refl
+passed_members g (x ∷ s) = ap (λ l. x.1 ∷ l) (passed_members g s)
 
 pub passed_taken : (g : ℕ) (s : Stream) → received 0 (map (pass g) s) ≡ answered (map (pass g) s)
 passed_taken g [] = refl
@@ -132,5 +137,12 @@ pub turns_later : (g : ℕ) (s : Stream) → AllByRecursion (λ x. IsLate g x.0)
     → map (later g) (stream_turns (answered (map (pass g) s))) ≡ stream_turns s
 turns_later g [] all = refl
 turns_later g (x ∷ s) all =
-    ap (λ t. t ∷ map (later g) (stream_turns (answered (map (pass g) s)))) all.0
+    ap (λ t. t ∷ map (later g) (stream_turns (answered (map (pass g) s)))) (later_earlier g x.0 all.0)
     ∙ ap (λ l. x.0 ∷ l) (turns_later g s all.1)
+
+pub numbers_later : (g : ℕ) (s : Stream) → AllByRecursion (λ x. IsLate g x.0) s
+    → added g (block_turns (answered (map (pass g) s))) ≡ block_turns s
+numbers_later g [] all = refl
+numbers_later g (x ∷ s) all =
+    ap (λ t. t ∷ added g (block_turns (answered (map (pass g) s)))) (earlier_number g x.0 all.0)
+    ∙ ap (λ l. block_turn x.0 ∷ l) (numbers_later g s all.1)

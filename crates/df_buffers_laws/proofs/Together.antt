@@ -27,7 +27,7 @@ use Rattle.df_stages.specs.Flows.{IsDualFlow}
 use Rattle.df_cancel.specs.Balances.{numbered, IsBalance, IsTight}
 use Rattle.df_wellformed.specs.Laws.{MarksAreUnique}
 use Rattle.df_labels.specs.Graphs.{node_of, graph_of}
-use Rattle.df_labels.specs.Labels.{Labels}
+use Rattle.df_labels.specs.Members.{Labels}
 use Rattle.df_buffers_laws.specs.HasSkeleton.{buffers_on, node_over, HasSkeleton}
 use Rattle.df_buffers_laws.specs.Insertions.{ports_to_buffer, buffered}
 use Rattle.df_buffers_laws.specs.Buffered.{over_buffers, HasNoBuffers, IsBuffered}
@@ -37,7 +37,7 @@ use Rattle.df_buffers_laws.specs.Placed.{counts_of, AreMade, ArePlaced}
 use Rattle.df_buffers_laws.proofs.Origins.{buf, home, own, old_feed, was_fed, is_fed}
 use Rattle.df_buffers_laws.proofs.Origins.{plain as plain_new}
 use Rattle.df_buffers_laws.proofs.Paths.{StandBetweenNodes, marks_stay}
-use Rattle.df_buffers_laws.proofs.Labelled.{old_label, carried_meet}
+use Rattle.df_buffers_laws.proofs.Labelled.{old_label, carried_meet, carried_late, carried_single, none_loaded}
 use Rattle.df_buffers_laws.proofs.Ports.{places}
 use Rattle.df_buffers_laws.proofs.Tables.{fed_inside}
 use Rattle.df_buffers_laws.proofs.Inserted.{is_buffered, new_length, on_arcs}
@@ -265,11 +265,11 @@ module _ (unique : MarksAreUnique) (skeletons : HasSkeletons) (certifies : Certi
         (filled_by old (numbered stages) balance.respects) suits.lawful.ends (skeletons new rules).counted;
     certified = certificate;
     least = λ tight. certifies new flow rules (certificate tight);
-    labelled =
-        λ inputs labels meet. carried_meet old new count is inputs labels meet (within_old old well_formed plain);
+    labelled = λ inputs n labels meet late. carried_meet old new count is inputs n labels meet late;
     results_stay = results_stay;
     realized = λ meaning realizes.
         still_realize old new marks is.few inputs_stay outputs_stay loops_stay results_stay
-        (λ inputs labels meet. carried_meet old new count is inputs labels meet
-        (within_old old well_formed plain)) meaning realizes;
+        (λ inputs n labels meet late. carried_meet old new count is inputs n labels meet late)
+        (carried_late old new count is) (carried_single old new count is) (none_loaded old new count is)
+        meaning realizes;
   }

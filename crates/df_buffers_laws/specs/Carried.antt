@@ -1,17 +1,17 @@
 -- The labels of cells with BUF cells on their arcs.
 use Rattle.std.specs.Prelude.{ℕ, ◌-◌, nat_lt, cond, List, [], ◌∷◌, length, map, Some, None}
-use Rattle.df_values.specs.declared.values.Value.{Value}
 use Rattle.df_cells.specs.declared.cells.Cell.{Cell}
 use Rattle.df_cells.specs.Shifts.{origin, gate_part}
-use Rattle.df_labels.specs.Labels.{Turn, Firing, Labels, answered}
+use Rattle.df_labels.specs.Labels.{Turn}
+use Rattle.df_labels.specs.Members.{Member, Firing, Labels, answered}
 
 -- so many elements earlier
 abbrev pub earlier : ℕ → Turn → Turn
 earlier n [] = []
 earlier n (i ∷ inner) = (i - n) ∷ inner
 
--- the firing of a BUF cell that passes a value on, g turns before that of the cell from which it comes
-abbrev pub pass : ℕ → Turn × Value → Firing
+-- the firing of a BUF cell that passes a member on, g turns before that of the cell from which it comes
+abbrev pub pass : ℕ → Turn × Member → Firing
 pass g x = record { turn = earlier g x.0; taken = Some x.1 ∷ None ∷ None ∷ []; answer = Some x.1 }
 
 -- a BUF cell passes on what comes from its origin

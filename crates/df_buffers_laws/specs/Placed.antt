@@ -14,8 +14,8 @@ use Rattle.df_stages.specs.Skeletons.{nodes, arcs, buffers, skeleton_of}
 use Rattle.df_stages.specs.Balance.{IsBalanced, IsLeast, IsCertificate}
 use Rattle.df_cancel.specs.Balances.{numbered, IsTight}
 use Rattle.df_labels.specs.Graphs.{graph_of}
-use Rattle.df_labels.specs.Labels.{Labels, LabelsMeet}
-use Rattle.df_labels.specs.Realizes.{Meaning, Realizes}
+use Rattle.df_labels.specs.Members.{Labels, LabelsMeet, AreLate}
+use Rattle.df_labels.specs.ForAll.{MeaningForAll, RealizesForAll}
 use Rattle.df_buffers_laws.specs.Insertions.{ports_to_buffer, buffered}
 use Rattle.df_buffers_laws.specs.Buffered.{IsBuffered}
 use Rattle.df_buffers_laws.specs.HasSkeleton.{HasSkeleton}
@@ -55,8 +55,8 @@ pub record ArePlaced (old new : List Cell) (stages : List ℤ) (flow : List ℕ)
   pub certified : IsTight (skeleton_of old) stages flow → IsCertificate new flow
   pub least : IsTight (skeleton_of old) stages flow → IsLeast new
   -- labels that met the cells meet them still, and each OUT keeps its label
-  pub labelled : (inputs : List (List Value)) (labels : Labels) → LabelsMeet old inputs labels
-      → LabelsMeet new inputs (carried old new labels)
+  pub labelled : (inputs : List (List Value)) (n : ℕ) (labels : Labels) → LabelsMeet old inputs n labels
+      → AreLate old labels → LabelsMeet new inputs n (carried old new labels)
   pub results_stay : (labels : Labels) (c k n : ℕ) → (cell_at new c).kind ≡ kind.Out k n
       → ((cell_at old c).kind ≡ kind.Out k n) × (carried old new labels c ≡ labels c)
-  pub realized : (meaning : Meaning) → Realizes old meaning → Realizes new meaning
+  pub realized : (meaning : MeaningForAll) → RealizesForAll old meaning → RealizesForAll new meaning

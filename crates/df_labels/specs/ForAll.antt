@@ -6,7 +6,7 @@ use Rattle.df_cells.specs.declared.cells.Cell.{Cell}
 use Rattle.df_cells.specs.declared.kinds.Kind.TheVariants as kind
 use Rattle.df_cells.specs.Cells.{cell_at, declarations, outputs}
 use Rattle.df_labels.specs.Histories.{IsPrefix}
-use Rattle.df_labels.specs.Members.{Member, Labels, LabelsMeet, sure, received, members}
+use Rattle.df_labels.specs.Members.{Member, Labels, LabelsMeet, AreLate, sure, received, members}
 use Rattle.df_labels.specs.MemberPlaces.{HasPlaces}
 use Rattle.df_labels.specs.Realizes.{Meaning}
 
@@ -40,6 +40,7 @@ pub record TellsFor (cells : List Cell) (inputs : List (List Value)) (n : ℕ) (
   pub whole : (c k m : ℕ) → (cell_at cells c).kind ≡ kind.Out k m
       → members (received 0 (labels c)) ≡ get_or outcome (k - 1) []
   pub placed : HasPlaces cells labels
+  pub late : AreLate cells labels
 
 pub record RealizesForAll (cells : List Cell) (meaning : MeaningForAll) : Type 0 where
   pub outputs : (inputs : List (List Value)) (n : ℕ) → AreValid (declarations cells) inputs

@@ -1,7 +1,7 @@
 -- Labels of members: for each cell its firings, where what is taken and answered is a value or nothing. Nothing stands
 -- for a value that never comes, as that of a loop which is given out after so many turns. Such labels are whole:
 -- on each arc all that is answered is taken.
-use Rattle.std.specs.Prelude.{◌≡◌, ◌<◌, ◌+◌, ℕ, suc, Bool, true, false, ◌&&◌, List, [], ◌∷◌, ◌++◌, map, get_or, length}
+use Rattle.std.specs.Prelude.{◌≡◌, ◌<◌, ◌≤◌, ◌+◌, ℕ, suc, Bool, true, false, ◌&&◌, List, [], ◌∷◌, ◌++◌, map, get_or, length}
 use Rattle.std.specs.Prelude.{slice_get, take, Option, Some, None, is_some}
 use Rattle.std.specs.List.{AllByRecursion, flat_map}
 use Rattle.df_values.specs.declared.values.Value.{Value}
@@ -158,6 +158,10 @@ pub record MeetsAt (cells : List Cell) (inputs : List (List Value)) (n : ℕ) (l
 -- labels meet the cells, the inputs and n where that of each cell does
 abbrev pub LabelsMeet : List Cell → List (List Value) → ℕ → Labels → Type 0
 LabelsMeet cells inputs n labels = (c : ℕ) → MeetsAt cells inputs n labels c
+
+-- no answer of a gate comes before the turns that its gate part leaves out
+abbrev pub AreLate : List Cell → Labels → Type 0
+AreLate cells labels = (c : ℕ) → AllByRecursion (λ x. gate_part cells c ≤ block_turn x.0) (answered (labels c))
 
 -- ---- firings that one member joins
 
