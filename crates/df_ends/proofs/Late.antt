@@ -1,5 +1,5 @@
 -- The answers of a gate come no earlier than its gate part.
-use Rattle.std.proofs.Common.{◌≡◌, ℕ, ◌+◌, ◌-◌, ◌≤◌, ◌&&◌, Bool, true, false, cond, List, [], ◌∷◌, ◌++◌, map, length, drop, get_or, Option, Some, None, ◌⊎◌, inl, inr, refl, sym, ap, subst, ◌∙◌, arith}
+use Rattle.std.proofs.Common.{◌≡◌, ℕ, zero, suc, ◌+◌, ◌≤◌, ◌&&◌, Bool, true, false, cond, List, [], ◌∷◌, ◌++◌, map, length, drop, get_or, Option, Some, None, ◌⊎◌, inl, inr, refl, sym, ap, subst, ◌∙◌, arith}
 use Rattle.std.specs.Prelude.{slice_get, is_some}
 use Rattle.std.specs.Option.{unwrap_or}
 use Rattle.std.specs.List.{AllByRecursion}
@@ -17,15 +17,36 @@ use Rattle.df_cells.specs.declared.kinds.Family.TheVariants as of
 use Rattle.df_cells.specs.declared.kinds.Run.{Run}
 use Rattle.df_cells.specs.Families.{family}
 use Rattle.df_cells.specs.Kinds.{run_values}
-use Rattle.df_cells.specs.Cells.{cell_at, cell_from, port_of, producer_of, values_of}
+use Rattle.df_cells.specs.Cells.{cell_at, cell_from, port_of, producer_of, values_of, is_buf}
 use Rattle.df_cells.specs.Firings.{operand, at_hand, with_constants, family_wants, wants, source_answer, gate_answer, family_answer, answer}
-use Rattle.df_cells.specs.Shifts.{origin, first_from, is_truth, first_truth, control_values, controls_from, controls, gate_place, gate_part, merge_place, merge_part}
+use Rattle.df_cells.specs.Shifts.{origin, back_over, cell_or, first_from, is_truth, first_truth, control_values, controls_from, controls, gate_place, gate_part, merge_place, merge_part}
 use Rattle.df_labels.specs.Histories.{listed}
-use Rattle.df_labels.specs.Labels.{Turn, Firing, Stream, Labels, later, stream_turns, stream_values, at_turn, answered, received, source_list, in_order_from, IsRightFiring, LabelsMeet}
+use Rattle.df_labels.specs.Labels.{Turn, Firing, Stream, Labels, block_turn, later, stream_turns, stream_values, at_turn, answered, received, source_list, in_order_from, IsRightFiring, LabelsMeet}
 use Rattle.df_labels.specs.Finishing.{ArcsWithin}
-use Rattle.df_buffers_laws.specs.Buffered.{HasNoBuffers}
-use Rattle.df_buffers_laws.proofs.Origins.{origin_stays}
-use Rattle.df_buffers_laws.proofs.Streams.{IsLate, zeros}
+use Rattle.df_ends.specs.OfValues.{HasNoBuffers}
+
+-- the turn is not among the first g
+abbrev IsLate : ℕ → Turn → Type 0
+IsLate g t = g ≤ block_turn t
+
+later_zero : (t : Turn) → later 0 t ≡ t
+later_zero [] = refl
+later_zero (i ∷ t) = let e : i + 0 ≡ i = omega arith in ap (λ k. k ∷ t) e
+
+zeros : (ts : List Turn) → map (later 0) ts ≡ ts
+zeros [] = refl
+zeros (t ∷ ts) = ap (λ s. s ∷ map (later 0) ts) (later_zero t) ∙ ap (λ l. t ∷ l) (zeros ts)
+
+-- a cell that is no BUF is its own origin
+over_same : (cells : List Cell) (n c : ℕ) → is_buf cells c ≡ false → back_over cells n c ≡ c
+over_same cells zero c plain = refl
+over_same cells (suc n) c plain =
+    let before = cell_or c (producer_of cells (port_of c 0)) in
+    ap (λ (t : Bool). back_over cells n (cond t before c)) plain ∙ over_same cells n c plain
+
+origin_stays : (cells : List Cell) (c : ℕ) → is_buf cells c ≡ false → origin cells c ≡ c
+unfolding origin
+origin_stays cells c plain = over_same cells (length cells) c plain
 
 -- ---- labels whose turns are 0, 1, 2 and so on, with these controls
 
@@ -47,7 +68,7 @@ late_rest g t None rest here all = all
 late_rest g t (Some v) rest here all = (here, all)
 
 late_turn : (g i : ℕ) (t : Turn) → t ≡ i ∷ [] → g ≤ i → IsLate g t
-late_turn g i t e h = subst (IsLate g) (sym e) (let back : i - g + g ≡ i = omega arith in ap (λ k. k ∷ []) back)
+late_turn g i t e h = subst (IsLate g) (sym e) h
 
 late_after : (g i : ℕ) (label : List Firing) (vs : List Value) → g ≤ i → InOrder i label vs → AreLate g label
 late_after g i [] vs h order = tt
@@ -163,11 +184,7 @@ no_list _ wanted own is = refl
 
 late_anyway : (s : Stream) → AllByRecursion (λ x. IsLate 0 x.0) s
 late_anyway [] = tt
-late_anyway (x ∷ s) = (by x.0, late_anyway s)
-  where
-    by : (t : Turn) → IsLate 0 t
-    by [] = refl
-    by (i ∷ t) = let e : i - 0 + 0 ≡ i = omega arith in ap (λ k. k ∷ t) e
+late_anyway (x ∷ s) = (omega arith, late_anyway s)
 
 -- ---- all cells without BUF cells
 

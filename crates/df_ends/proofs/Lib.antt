@@ -6,4 +6,5 @@ pub mod Ends
 pub mod Ranked
 pub mod Good
 pub mod OfValues
+pub mod Late
 pub mod Realized

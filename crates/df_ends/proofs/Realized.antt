@@ -1,22 +1,29 @@
 -- What labels of values say, said for every number of firings: places, what cells realize, and that they are good.
 use Rattle.std.proofs.Common.{◌≡◌, ℕ, zero, suc, ◌+◌, ◌-◌, List, [], ◌∷◌, ◌++◌, map, get_or, length, take, Some}
-use Rattle.std.proofs.Common.{refl, sym, ◌∙◌, ap, inl, inr, arith}
+use Rattle.std.proofs.Common.{◌<◌, ◌≤◌, refl, sym, ◌∙◌, ap, subst, inl, inr, arith}
 use Rattle.std.specs.List.{AllByRecursion}
-use Rattle.std.proofs.lemmas.List.{take-map, length-map}
+use Rattle.std.specs.Prelude.{slice_get}
+use Rattle.std.proofs.lemmas.List.{take-map, length-map, get_or_past}
+use Rattle.std.proofs.lemmas.Bool.{cases_lt}
+use Rattle.std.proofs.lemmas.Option.{none-some}
 use Rattle.df_values.specs.declared.values.Value.{Value}
 use Rattle.df_cells.specs.declared.cells.Dest.{Dest}
 use Rattle.df_cells.specs.declared.cells.Cell.{Cell}
-use Rattle.df_cells.specs.Cells.{loaded_at}
+use Rattle.df_cells.specs.Cells.{no_cell, cell_from, port_of, producer_of, loaded_at}
+use Rattle.df_cells.specs.Shifts.{gate_part}
+use Rattle.df_cells.specs.WellFormed.{WellFormed}
+use Rattle.df_cells.specs.declared.cells.CellId.{CellId}
 use Rattle.df_labels.specs.Histories.{listed, IsPrefix}
 use Rattle.df_labels.specs.Labels as plain
 use Rattle.df_labels.specs.Places as placed
 use Rattle.df_labels.specs.Realizes.{Outcome}
-use Rattle.df_labels.specs.Members.{Member, Firing, Pairs, firing_at, answered, received, members, sure}
+use Rattle.df_labels.specs.Members.{Member, Firing, AreLate, Pairs, firing_at, answered, received, members, sure}
 use Rattle.df_labels.specs.MemberPlaces.{HasPlaces}
 use Rattle.df_machine.specs.Runs.{after, events}
-use Rattle.df_ends.specs.OfValues.{firing_of, of_values}
+use Rattle.df_ends.specs.OfValues.{firing_of, of_values, HasNoBuffers}
 use Rattle.df_ends.specs.Laws.{LabelsOfValuesMeet, RealizingCellsRealizeForAll, GoodForAllIsGood}
-use Rattle.df_ends.proofs.OfValues.{answered_of, received_of, members_of}
+use Rattle.df_ends.proofs.OfValues.{stream_of, answered_of, received_of, members_of}
+use Rattle.df_ends.proofs.Late.{late_enough}
 
 -- ---- places
 
@@ -72,6 +79,27 @@ places_of cells inputs labels meets places = record {
   unloaded = λ d. (meets d.cell.0).unloaded d.port.0;
 }
 
+-- ---- answers come no earlier than the gate part
+
+late_stream : (g : ℕ) (s : plain.Stream) → AllByRecursion (λ x. g ≤ plain.block_turn x.0) s
+    → AllByRecursion (λ x. g ≤ plain.block_turn x.0) (stream_of s)
+late_stream g [] all = tt
+late_stream g (x ∷ s) all = (all.0, late_stream g s all.1)
+
+late_of : (cells : List Cell) (inputs : List (List Value)) (labels : plain.Labels) → plain.LabelsMeet cells inputs labels
+    → HasNoBuffers cells → WellFormed cells → AreLate cells (of_values labels)
+late_of cells inputs labels meets bare w c =
+    subst (λ s. AllByRecursion (λ x. gate_part cells c ≤ plain.block_turn x.0) s) (sym (answered_of (labels c)))
+    (late_stream (gate_part cells c) (plain.answered (labels c))
+    (late_enough cells inputs labels meets bare (λ d p u fed. (w.port d (there d p u fed)).feeds p u fed) c))
+  where
+    there : (d p : ℕ) (u : CellId) → producer_of cells (port_of d p) ≡ Some u → d < length cells
+    there d p u fed = elim (cases_lt d (length cells)) [
+      | inl within ↦ within
+      | inr past ↦ absurd (none-some u
+          (ap (λ (c : Cell). cell_from (slice_get c.ports p)) (sym (get_or_past cells d no_cell past)) ∙ fed))
+    ]
+
 -- ---- what cells realize
 
 -- a result of values, as members
@@ -81,7 +109,7 @@ result_of (l ∷ outcome) zero = refl
 result_of (l ∷ outcome) (suc k) = result_of outcome k
 
 pub realizing_cells_realize_for_all : LabelsOfValuesMeet → RealizingCellsRealizeForAll
-realizing_cells_realize_for_all meet cells meaning w realizes = record {
+realizing_cells_realize_for_all meet cells meaning w bare realizes = record {
   outputs = λ inputs n fits. realizes.outputs inputs fits ∙ sym (length-map (meaning inputs) sure);
   tells = λ inputs n fits.
       let t = realizes.tells inputs fits in
@@ -92,6 +120,7 @@ realizing_cells_realize_for_all meet cells meaning w realizes = record {
             ∙ members_of (plain.received 0 (t.labels c)) ∙ ap sure (t.whole c k m is)
             ∙ sym (result_of (meaning inputs) (k - 1));
         placed = places_of cells inputs t.labels t.meet t.placed;
+        late = late_of cells inputs t.labels t.meet bare w;
       };
 }
 

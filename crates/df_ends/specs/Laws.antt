@@ -15,7 +15,7 @@ use Rattle.df_machine.specs.States.{firings}
 use Rattle.df_labels.specs.Members.{Labels, LabelsMeet, sure, received, members}
 use Rattle.df_rank.specs.Good.{IsGood}
 use Rattle.df_stages.specs.Balance.{IsBalanced}
-use Rattle.df_ends.specs.OfValues.{of_values}
+use Rattle.df_ends.specs.OfValues.{of_values, HasNoBuffers}
 use Rattle.df_ends.specs.Ranks.{HasRanks, IsLower, rank_of}
 use Rattle.df_labels.specs.ForAll.{MeaningForAll, RealizesForAll, for_all}
 use Rattle.df_labels.specs.MemberPlaces.{HasPlaces}
@@ -78,9 +78,9 @@ LabelsOfValuesMeet = (cells : List Cell) (inputs : List (List Value)) (labels : 
     → AreValid (declarations cells) inputs
     → plain.LabelsMeet cells inputs labels → (n : ℕ) → LabelsMeet cells inputs n (of_values labels)
 
--- so cells that realize a meaning by values realize it for every number of firings
+-- so cells without BUF cells that realize a meaning by values realize it for every number of firings
 abbrev pub RealizingCellsRealizeForAll : Type 0
-RealizingCellsRealizeForAll = (cells : List Cell) (meaning : Meaning) → WellFormed cells
+RealizingCellsRealizeForAll = (cells : List Cell) (meaning : Meaning) → WellFormed cells → HasNoBuffers cells
     → Realizes cells meaning → RealizesForAll cells (for_all meaning)
 
 -- and cells that are good for every number of firings are good
