@@ -23,7 +23,8 @@ use Rattle.df_labels.specs.Histories.{IsPrefix}
 use Rattle.df_machine.specs.Events.{possible}
 use Rattle.df_machine.specs.Reports.{report}
 use Rattle.df_machine.specs.Runs.{after}
-use Rattle.df_rank.specs.Laws.{RealizingCellsAreGood}
+use Rattle.df_labels.specs.ForAll.{for_all}
+use Rattle.df_ends.specs.Laws.{RealizingForAllIsGood, GoodForAllIsGood}
 use Rattle.df_syntax.specs.SourceMeaning.{source_inputs, source_mean}
 use Rattle.df_syntax.specs.declared.program.Program.{Program as Tree}
 use Rattle.df_commands.specs.Compiled.{IsCompiled}
@@ -42,9 +43,9 @@ valid_inputs : (tree : Tree) (cells : List Cell) (inputs : List (List Value)) �
 valid_inputs tree cells inputs same =
     subst (λ ds. AreValid ds inputs) (sym (ap (λ (ds : List InputDecl). map declaration_of ds) same ∙ declared_by_decls (source_inputs tree)))
 
-pub good_for_source : RealizingCellsAreGood → LoweringKeepsTheMeaning → CellsOfSourcesAreGood
-good_for_source are_good keeps tree flat cells is inputs formed balanced realizes =
-    let good = are_good cells (flat_mean flat) formed balanced realizes in
+pub good_for_source : RealizingForAllIsGood → GoodForAllIsGood → LoweringKeepsTheMeaning → CellsOfSourcesAreGood
+good_for_source are_good for_every keeps tree flat cells is inputs formed balanced realizes =
+    let good = for_every cells (flat_mean flat) (are_good cells (for_all (flat_mean flat)) formed balanced realizes) in
     let same = inputs_of_source tree flat cells is inputs in
     record {
       no_clash = λ lists choices choice valid. good.faithful.no_clash lists choices choice (valid_inputs tree cells lists same valid);

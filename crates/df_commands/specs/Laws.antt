@@ -9,7 +9,7 @@ use Rattle.df_io.specs.Told.{Holds}
 use Rattle.df_core.specs.Meaning.{flat_mean}
 use Rattle.df_core.specs.declared.flat.Flat.{Flat}
 use Rattle.df_build_elem.specs.Program.{declared_inputs}
-use Rattle.df_labels.specs.Realizes.{Realizes}
+use Rattle.df_labels.specs.ForAll.{RealizesForAll, for_all}
 use Rattle.df_stages.specs.Balance.{IsBalanced}
 use Rattle.df_cells.specs.declared.cells.Cell.{Cell}
 use Rattle.df_cells.specs.Cells.{inputs_of}
@@ -29,7 +29,8 @@ use Rattle.df_commands.specs.ProgramTexts.{IsTextOfTree, IsSized, ReadsProgram, 
 -- Cells with the inputs of a source that realize what its flat program means are good for the source.
 abbrev pub CellsOfSourcesAreGood : Type 0
 CellsOfSourcesAreGood = (tree : Tree) (flat : Flat) (cells : List Cell) → IsFlatOf tree flat
-    → inputs_of cells ≡ declared_inputs flat → WellFormed cells → IsBalanced cells → Realizes cells (flat_mean flat) → IsGood tree cells
+    → inputs_of cells ≡ declared_inputs flat → WellFormed cells → IsBalanced cells
+    → RealizesForAll cells (for_all (flat_mean flat)) → IsGood tree cells
 
 -- The report of a drained run of good cells has the results that the source means.
 abbrev pub DrainedRunsTellTheMeaning : Type 0

@@ -7,12 +7,12 @@ use df_dual_check::laws::{
     certified_dont_fail, fails_once as flow_fails_once, has_one_wrong_line, others_fail,
     others_have_wrong_lines, tells_one_flow,
 };
+use df_ends::laws::{good_for_all_is_good, realizing_for_all_is_good};
 use df_flattened::laws::lowering_keeps_the_meaning;
 use df_iotext::laws::{
     inputs_have_one_reading, inputs_have_readings, schedules_have_one_reading,
     schedules_have_readings,
 };
-use df_rank::laws::realizing_cells_are_good;
 use df_syntax::laws::{
     text_has_one_first_bad_place, text_has_one_split, text_has_tokens_or_a_bad_place,
     text_with_tokens_has_no_bad_place, tokens_have_one_answer, tokens_have_some_answer,
@@ -111,7 +111,8 @@ pub fn accepted_sources_bind_new_names()
 pub fn cells_of_sources_are_good()
     ensures { CellsOfSourcesAreGood }
 {
-    realizing_cells_are_good();
+    realizing_for_all_is_good();
+    good_for_all_is_good();
     lowering_keeps_the_meaning();
 }
 

@@ -5,7 +5,7 @@ use Rattle.df_cells.specs.Cells.{inputs_of}
 use Rattle.df_cells.specs.WellFormed.{WellFormed}
 use Rattle.df_stages.specs.Balance.{IsBalanced, IsLeast, IsCertificate}
 use Rattle.df_labels.specs.Graphs.{graph_of}
-use Rattle.df_labels.specs.Realizes.{Realizes}
+use Rattle.df_labels.specs.ForAll.{RealizesForAll, for_all}
 use Rattle.df_buffers_laws.specs.HasSkeleton.{HasSkeleton}
 use Rattle.df_buffers_laws.specs.Buffered.{HasNoBuffers}
 use Rattle.df_buffers_laws.specs.Staged.{HasLowestStage}
@@ -30,7 +30,7 @@ pub record IsCompiledFrom (flat : Flat) (cells : List Cell) (flow : List ℕ) : 
   pub least : IsLeast cells
   pub lowest : HasLowestStage cells
   pub certificate : IsCertificate cells flow
-  pub realizes : Realizes cells (flat_mean flat)
+  pub realizes : RealizesForAll cells (for_all (flat_mean flat))
 
 -- However the skeleton of the program is numbered, its cells and the BUF cells that this wants are too many.
 pub record IsOverfull (flat : Flat) : Type 0 where

@@ -7,7 +7,7 @@ use Rattle.df_stages.specs.Balance.{IsBalanced, IsLeast, IsCertificate}
 use Rattle.df_stages.specs.Flows.{Respects, total_excess}
 use Rattle.df_stages.specs.Skeletons.{arcs}
 use Rattle.df_labels.specs.Graphs.{graph_of}
-use Rattle.df_labels.specs.Realizes.{Meaning, Realizes}
+use Rattle.df_labels.specs.ForAll.{MeaningForAll, RealizesForAll}
 use Rattle.df_buffers_laws.specs.HasSkeleton.{HasSkeleton}
 use Rattle.df_buffers_laws.specs.Staged.{HasLowestStage}
 
@@ -25,7 +25,7 @@ pub record IsFilled (old new : List Cell) (flow : List ℕ) : Type 0 where
   pub least : IsLeast new
   pub lowest : HasLowestStage new
   pub certificate : IsCertificate new flow
-  pub realized : (meaning : Meaning) → Realizes old meaning → Realizes new meaning
+  pub realized : (meaning : MeaningForAll) → RealizesForAll old meaning → RealizesForAll new meaning
 
 -- however the nodes are numbered, the cells and the BUF cells that this wants are too many
 abbrev pub IsOver : List Cell → Type 0

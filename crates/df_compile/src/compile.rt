@@ -5,7 +5,7 @@ ghost use Rattle.df_cells.specs.WellFormed.{WellFormed};
 ghost use Rattle.df_core.specs.Meaning.{flat_mean};
 ghost use Rattle.df_core.specs.Within.{IsFlat};
 ghost use Rattle.df_labels.specs.Graphs.{graph_of};
-ghost use Rattle.df_labels.specs.Realizes.{Realizes};
+ghost use Rattle.df_labels.specs.ForAll.{RealizesForAll, for_all};
 ghost use Rattle.df_stages.specs.Skeletons.{skeleton_of};
 ghost use Rattle.df_build_elem.specs.Program.{program_graph, declared_inputs};
 ghost use Rattle.df_buffers_laws.specs.Buffered.{HasNoBuffers};
@@ -75,7 +75,7 @@ fn built(alloc: Global, flat: &Flat) -> Result<Cells, CompileAnswer>
     ensures plain { IfOk result HasNoBuffers }
     ensures inputs { IfOk result (λ cells. inputs_of cells ≡ declared_inputs flat.now) }
     ensures few { IfOk result (λ cells. length cells ≤ 4096) }
-    ensures realizes { IfOk result (λ cells. Realizes cells (flat_mean flat.now)) }
+    ensures realizes { IfOk result (λ cells. RealizesForAll cells (for_all (flat_mean flat.now))) }
     ensures refused { IfErr result (λ answer. (answer ≢ CompileAnswer.TooManyCells) × IsRefused flat.now answer) }
 {
     skeletons_realize();
@@ -108,7 +108,8 @@ fn fill(alloc: Global, cells: Cells) -> Result<Filled, CompileAnswer>
 
 /// The cells of a flat program: its skeleton with BUF cells, balanced, with no more BUF cells than any balanced placement has, from
 /// stage 0 on. The flow of the balance certifies that. The cells realize what the program means: there are as many outputs as
-/// results, and for all valid inputs labels say what each cell takes and answers, by which each OUT takes the whole of its result.
+/// results, and for all valid inputs and every number of firings labels say what each cell takes and answers, by which each OUT
+/// takes the whole of its result.
 /// It is refused exactly where the skeleton has more than 4,096 cells, or where cells and BUF cells are more than 65,536 however they
 /// are placed.
 pub fn compile(alloc: Global, flat: &Flat) -> Result<Compiled, CompileAnswer>

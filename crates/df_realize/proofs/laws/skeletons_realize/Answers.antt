@@ -5,3 +5,4 @@ pub returns : goal.returns
 returns c =
     skeletons_realize c.skeletons_are_well_formed.ensures c.skeletons_have_zones.ensures c.obeys_kinds.ensures
     c.skeletons_tell.ensures c.valid_inputs_have_lengths.ensures c.zones_give_places.ensures
+    c.realizing_cells_realize_for_all.ensures
