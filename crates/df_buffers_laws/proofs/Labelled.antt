@@ -1,5 +1,6 @@
 -- Labels that meet cells meet them with BUF cells on their arcs too.
-use Rattle.std.proofs.Common.{◌≡◌, ℕ, zero, suc, ◌+◌, ◌<◌, ◌≤◌, ◌&&◌, Bool, true, false, nat_lt, cond, List, [], ◌∷◌, ◌++◌, map}
+use Rattle.std.proofs.Common.{◌≡◌, ℕ, zero, suc, ◌+◌, ◌<◌, ◌≤◌, ◌&&◌, Bool, true, false, nat_lt, cond, List, [], ◌∷◌}
+use Rattle.std.proofs.Common.{◌++◌, map}
 use Rattle.std.proofs.Common.{length, take, get_or, Option, Some, None, inl, inr, refl, sym, ap, subst, ◌∙◌, arith}
 use Rattle.std.specs.Prelude.{slice_get, is_some}
 use Rattle.std.specs.Option.{option_map}
@@ -26,7 +27,8 @@ use Rattle.df_labels.specs.Members.{IsWanted, IsOver, MeetsAt, LabelsMeet, AreLa
 use Rattle.df_labels.specs.Members.{block_turns, firing_at, coming, left_from, left_at}
 use Rattle.df_buffers_laws.specs.Buffered.{over_buffers, IsBuffered}
 use Rattle.df_buffers_laws.specs.Carried.{earlier, pass, passed_on, carried}
-use Rattle.df_buffers_laws.proofs.Origins.{home, own, loads_stay, buf_unloaded, buf_feed, was_fed, is_fed, producers, buf_origin}
+use Rattle.df_buffers_laws.proofs.Origins.{home, own, loads_stay, buf_unloaded, buf_feed, was_fed, is_fed, producers}
+use Rattle.df_buffers_laws.proofs.Origins.{buf_origin}
 use Rattle.df_buffers_laws.proofs.Origins.{gates_stay, merges_stay, no_gate, no_merge}
 use Rattle.df_buffers_laws.proofs.Streams.{added, zeros, sums, same_added, rising_back, turns_of, stream_turns}
 use Rattle.df_buffers_laws.proofs.Streams.{all_answered, rising_answered, passed_members, passed_taken, passed_turns}
@@ -89,7 +91,8 @@ module _ (cells : List Cell) (old new : Cell) (kinds : new.kind ≡ old.kind)
   same_answer i own x =
       ap (λ y. answer new.kind i own y) (same_constants x) ∙ ap (λ k. answer k i own (with_constants old x)) kinds
 
-  same_wants : (x : Operands) (p : ℕ) → wants new.kind (with_constants new x) p ≡ wants old.kind (with_constants old x) p
+  same_wants : (x : Operands) (p : ℕ)
+      → wants new.kind (with_constants new x) p ≡ wants old.kind (with_constants old x) p
   same_wants x p =
       ap (λ y. wants new.kind y p) (same_constants x) ∙ ap (λ k. wants k (with_constants old x) p) kinds
 
@@ -123,7 +126,8 @@ unfolding answer
 pass_right cell u g i own t None safe = let no' = safe.0 in cc
 pass_right cell u g i own t (Some v) safe = refl
 
-passes_right : (cell : Cell) (u : CellId) (g i : ℕ) (own : List Value) (s : Stream) (k : ℕ) → k < length (map (pass g) s)
+passes_right : (cell : Cell) (u : CellId) (g i : ℕ) (own : List Value) (s : Stream) (k : ℕ)
+    → k < length (map (pass g) s)
     → AnswersRightly (buf_cell cell u) i own (firing_at (map (pass g) s) k)
 passes_right cell u g i own [] k within = absurd (omega arith)
 passes_right cell u g i own (x ∷ s) zero within = pass_right cell u g i own x.0 x.1
@@ -144,7 +148,8 @@ all_answer g (x ∷ s) = (refl, all_answer g s)
 
 pub old_label : (old new : List Cell) (labels : Labels) (c : ℕ) → c < length old → carried old new labels c ≡ labels c
 old_label old new labels c h =
-    ap (λ b. cond b (labels c) (cond (nat_lt c (length new)) (passed_on old new labels c) [])) (lt-ltb c (length old) h)
+    ap (λ b. cond b (labels c) (cond (nat_lt c (length new)) (passed_on old new labels c) []))
+    (lt-ltb c (length old) h)
 
 module _ (old new : List Cell) (count : Dest → ℕ) (is : IsBuffered old new count) where
   same_values : (inputs : List (List Value)) (c : ℕ) → c < length old → values_of new inputs c ≡ values_of old inputs c
@@ -232,7 +237,8 @@ module _ (old new : List Cell) (count : Dest → ℕ) (is : IsBuffered old new c
     old_arcs c p u h fed =
         ap (λ l. members (received p l)) (old_label old new labels c h)
         ∙ (meet c).arcs p (home new u) (was_fed old new count is (port_of c p) u h fed)
-        ∙ ap (λ k. take k (coming old labels (port_of c p) (origin new u.0))) (sym (size_sent u.0 (is.within c p u fed)))
+        ∙ ap (λ k. take k (coming old labels (port_of c p) (origin new u.0)))
+        (sym (size_sent u.0 (is.within c p u fed)))
         ∙ ap (take (length (answered (now u.0)))) (sym (same_coming c p u h fed))
 
     same_left : (c p : ℕ) → c < length old → left_at new now c p ≡ left_at old labels c p
@@ -311,7 +317,8 @@ module _ (old new : List Cell) (count : Dest → ℕ) (is : IsBuffered old new c
       | inr behind ↦ elim (cases_lt d.cell.0 (length new)) [
         | inl inside ↦
             absurd (both_ways (is_some (loaded_at new d))
-            (ap (λ (o : Option Value). is_some o) (buf_unloaded old new count is d.cell.0 d.port.0 behind inside)) some)
+            (ap (λ (o : Option Value). is_some o)
+            (buf_unloaded old new count is d.cell.0 d.port.0 behind inside)) some)
         | inr past ↦ absurd (none_past new d.cell.0 past d.port.0 (record { 0 = c }) fed)
       ]
     ]
@@ -466,7 +473,8 @@ module _ (old new : List Cell) (count : Dest → ℕ) (is : IsBuffered old new c
           right = λ i few within safe.
               let here = ap (λ l. firing_at l i) is_now in
               let sized = ap (λ (l : List Firing). length l) is_now in
-              let all = as_buf (λ x. AnswersRightly x i (values_of new inputs b) (firing_at (map (pass g) stream) i)) cell
+              let all = as_buf (λ x. AnswersRightly x i (values_of new inputs b)
+              (firing_at (map (pass g) stream) i)) cell
               chain.0 kind' chain.1
               (passes_right cell chain.0 g i (values_of new inputs b) stream i (omega (arith, sized, within))) in
               subst (λ (f : Firing). f.answer ≡ as_member (answer_at new inputs i b (values f.taken))) (sym here)
@@ -489,7 +497,8 @@ module _ (old new : List Cell) (count : Dest → ℕ) (is : IsBuffered old new c
           shifts = λ p u fed bare. absurd (none_past new c past p u fed);
           wanted = subst (AllByRecursion (IsWanted (cell_at new c))) none tt;
           right = λ i few within safe.
-              let sized = ap (λ (l : List Firing). length l) (past_label c past) in absurd (omega (arith, sized, within));
+              let sized = ap (λ (l : List Firing). length l) (past_label c past) in absurd
+              (omega (arith, sized, within));
           over = λ within few free. absurd (omega (arith, within, past));
           steady = λ d fed some. subst (AllByRecursion (λ (f : Firing). is_some f.answer ≡ true)) none tt;
           counts = λ m e. let is_buf = ap (λ (x : Cell). limit x.kind) cell in absurd (cc);

@@ -1,5 +1,6 @@
 -- Cells that realize a meaning realize it with BUF cells on their arcs too.
-use Rattle.std.proofs.Common.{◌≡◌, ◌≢◌, ◌⊎◌, ℕ, suc, ◌+◌, ◌-◌, ◌<◌, ◌≤◌, List, [], length, map, take, get_or, Some, None, inl, inr, sym, ap, subst, ◌∙◌}
+use Rattle.std.proofs.Common.{◌≡◌, ◌≢◌, ◌⊎◌, ℕ, suc, ◌+◌, ◌-◌, ◌<◌, ◌≤◌, List, [], length, map, take, get_or, Some}
+use Rattle.std.proofs.Common.{None, inl, inr, sym, ap, subst, ◌∙◌}
 use Rattle.std.specs.List.{AllByRecursion}
 use Rattle.std.proofs.lemmas.Bool.{cases_lt}
 use Rattle.std.proofs.lemmas.List.{get_or_past}
@@ -10,7 +11,8 @@ use Rattle.df_cells.specs.declared.cells.Cell.{Cell}
 use Rattle.df_cells.specs.declared.cells.Dest.{Dest}
 use Rattle.df_cells.specs.declared.cells.InputDecl.{InputDecl}
 use Rattle.df_cells.specs.declared.kinds.Kind.TheVariants as kind
-use Rattle.df_cells.specs.Cells.{no_cell, cell_at, cell_from, loaded_from, feed_of, loaded_at, producer_of, inputs_of, declaration_of, declarations, outputs}
+use Rattle.df_cells.specs.Cells.{no_cell, cell_at, cell_from, loaded_from, feed_of, loaded_at, producer_of, inputs_of}
+use Rattle.df_cells.specs.Cells.{declaration_of, declarations, outputs}
 use Rattle.df_cells.specs.Paths.{mark_of}
 use Rattle.df_labels.specs.Histories.{listed}
 use Rattle.df_labels.specs.Labels.{block_turn}
@@ -70,7 +72,8 @@ module _ (old new : List Cell) (marks : (c : ℕ) → mark_of new c ≡ mark_of 
           } in
           let goes = places.passing d u i j (ap cell_from (sym feed) ∙ fed) (λ none. some (marks u.0 ∙ none))
           (sym (marks u.0) ∙ same ∙ marks d.cell.0) was in
-          subst (λ (l : List Firing). Goes places.place l (carried old new labels d.cell.0) u.0 d.cell.0 i j) (sym from)
+          subst (λ (l : List Firing). Goes places.place l (carried old new labels d.cell.0) u.0 d.cell.0 i j)
+          (sym from)
           (subst (λ (l : List Firing). Goes places.place (labels u.0) l u.0 d.cell.0 i j) (sym to) goes);
     }
 

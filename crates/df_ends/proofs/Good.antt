@@ -18,7 +18,8 @@ use Rattle.df_labels.specs.Members.{Member, sure}
 use Rattle.df_members.specs.Laws.{FollowsMembers}
 use Rattle.df_labels.specs.ForAll.{MemberOutcome}
 use Rattle.df_ends.specs.Ranks.{rank_of}
-use Rattle.df_ends.specs.Laws.{EndsWhole, BalancedCellsHaveRanks, RealizingForAllIsFaithful, RealizingForAllIsGood, EndlessRunsGoOn}
+use Rattle.df_ends.specs.Laws.{EndsWhole, BalancedCellsHaveRanks, RealizingForAllIsFaithful, RealizingForAllIsGood}
+use Rattle.df_ends.specs.Laws.{EndlessRunsGoOn}
 
 -- what holds at each OUT, and of nothing, holds of each result
 each_result : HasAllResults → ResultsHaveOutputs
@@ -59,14 +60,18 @@ realizing_for_all_is_good faithful ranks ends all outs cells meaning w balanced 
   faithful = faithful cells meaning w realizes;
   whole = λ inputs choices n k fits few none.
       let t = realizes.tells inputs n fits in
+      let ranked = ranks cells inputs n t.labels w balanced t.meet t.placed in
+      let ended = ends cells inputs n t.labels (rank_of cells t.labels t.placed.place) choices w fits t.meet ranked few
+      none in
       each_result all outs cells inputs choices (meaning inputs n) (λ l m. sure l ≡ m) w
-      (realizes.outputs inputs n fits) refl
-      (λ c j m is. ((ends cells inputs n t.labels (rank_of cells t.labels t.placed.place) choices w fits t.meet (ranks cells inputs n t.labels w balanced t.meet t.placed) few none).1 c j m is).0
-      ∙ t.whole c j m is) k;
+      (realizes.outputs inputs n fits) refl (λ c j m is. (ended.1 c j m is).0 ∙ t.whole c j m is) k;
   full = λ inputs choices c k m fits none is.
       let n = suc (events cells inputs choices) in
       let t = realizes.tells inputs n fits in
-      ((ends cells inputs n t.labels (rank_of cells t.labels t.placed.place) choices w fits t.meet (ranks cells inputs n t.labels w balanced t.meet t.placed) (omega arith) none).1 c k m is).1;
+      let ranked = ranks cells inputs n t.labels w balanced t.meet t.placed in
+      let ended = ends cells inputs n t.labels (rank_of cells t.labels t.placed.place) choices w fits t.meet ranked
+      (omega arith) none in
+      (ended.1 c k m is).1;
 }
 
 -- ---- results that are never whole

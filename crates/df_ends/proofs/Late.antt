@@ -1,5 +1,7 @@
 -- The answers of a gate come no earlier than its gate part.
-use Rattle.std.proofs.Common.{◌≡◌, ℕ, zero, suc, ◌+◌, ◌≤◌, ◌&&◌, Bool, true, false, cond, List, [], ◌∷◌, ◌++◌, map, length, drop, get_or, Option, Some, None, ◌⊎◌, inl, inr, refl, sym, ap, subst, ◌∙◌, arith}
+use Rattle.std.proofs.Common.{◌≡◌, ℕ, zero, suc, ◌+◌, ◌≤◌, ◌&&◌, Bool, true, false, cond, List, [], ◌∷◌, ◌++◌, map}
+use Rattle.std.proofs.Common.{length, drop, get_or, Option, Some, None, ◌⊎◌, inl, inr, refl, sym, ap, subst, ◌∙◌}
+use Rattle.std.proofs.Common.{arith}
 use Rattle.std.specs.Prelude.{slice_get, is_some}
 use Rattle.std.specs.Option.{unwrap_or}
 use Rattle.std.specs.List.{AllByRecursion}
@@ -18,10 +20,13 @@ use Rattle.df_cells.specs.declared.kinds.Run.{Run}
 use Rattle.df_cells.specs.Families.{family}
 use Rattle.df_cells.specs.Kinds.{run_values}
 use Rattle.df_cells.specs.Cells.{cell_at, cell_from, port_of, producer_of, values_of, is_buf}
-use Rattle.df_cells.specs.Firings.{operand, at_hand, with_constants, family_wants, wants, source_answer, gate_answer, family_answer, answer}
-use Rattle.df_cells.specs.Shifts.{origin, back_over, cell_or, first_from, is_truth, first_truth, control_values, controls_from, controls, gate_place, gate_part, merge_place, merge_part}
+use Rattle.df_cells.specs.Firings.{operand, at_hand, with_constants, family_wants, wants, source_answer, gate_answer}
+use Rattle.df_cells.specs.Firings.{family_answer, answer}
+use Rattle.df_cells.specs.Shifts.{origin, back_over, cell_or, first_from, is_truth, first_truth, control_values}
+use Rattle.df_cells.specs.Shifts.{controls_from, controls, gate_place, gate_part, merge_place, merge_part}
 use Rattle.df_labels.specs.Histories.{listed}
-use Rattle.df_labels.specs.Labels.{Turn, Firing, Stream, Labels, block_turn, later, stream_turns, stream_values, at_turn, answered, received, source_list, in_order_from, IsRightFiring, LabelsMeet}
+use Rattle.df_labels.specs.Labels.{Turn, Firing, Stream, Labels, block_turn, later, stream_turns, stream_values}
+use Rattle.df_labels.specs.Labels.{at_turn, answered, received, source_list, in_order_from, IsRightFiring, LabelsMeet}
 use Rattle.df_labels.specs.Finishing.{ArcsWithin}
 use Rattle.df_ends.specs.OfValues.{HasNoBuffers}
 
@@ -62,7 +67,8 @@ record IsGated (wanted : Bool) (f : Firing) : Type 0 where
 abbrev AreLate : ℕ → List Firing → Type 0
 AreLate g label = AllByRecursion (λ x. IsLate g x.0) (answered label)
 
-late_rest : (g : ℕ) (t : Turn) (o : Option Value) (rest : Stream) → IsLate g t → AllByRecursion (λ x. IsLate g x.0) rest
+late_rest : (g : ℕ) (t : Turn) (o : Option Value) (rest : Stream) → IsLate g t
+    → AllByRecursion (λ x. IsLate g x.0) rest
     → AllByRecursion (λ x. IsLate g x.0) (at_turn t o ++ rest)
 late_rest g t None rest here all = all
 late_rest g t (Some v) rest here all = (here, all)
@@ -109,7 +115,8 @@ in_order i (f ∷ label) vs takes values turns =
         → stream_values (at_turn f.turn o ++ received 0 label) ≡ vs
         → stream_turns (at_turn f.turn o ++ received 0 label) ≡ stream_turns (answered (in_order_from i vs))
         → ((ws : List Value) → stream_values (received 0 label) ≡ ws
-        → stream_turns (received 0 label) ≡ stream_turns (answered (in_order_from (i + 1) ws)) → InOrder (i + 1) label ws)
+        → stream_turns (received 0 label) ≡ stream_turns (answered (in_order_from (i + 1) ws))
+        → InOrder (i + 1) label ws)
         → InOrder i (f ∷ label) vs
     by None is vs some values turns rest = absurd (cc)
     by (Some v) is [] some values turns rest = absurd (cc)

@@ -27,7 +27,8 @@ use Rattle.df_labels.specs.Labels as plain
 use Rattle.df_labels.specs.Laws.{LabelsGiveHistories, FirstFiringsAgree}
 use Rattle.df_labels.proofs.Firings.{given_append, wants_first}
 use Rattle.df_labels.specs.Members.{Member, Firing, Stream, MeetsAt, IsWanted, at_turn, answered, received, members}
-use Rattle.df_labels.specs.Members.{block_turns, sure, as_member, values, value_of, firing_at, left_from, left_at, coming}
+use Rattle.df_labels.specs.Members.{block_turns, sure, as_member, values, value_of, firing_at, left_from, left_at}
+use Rattle.df_labels.specs.Members.{coming}
 use Rattle.df_labels.specs.Members.{in_order_from}
 use Rattle.df_members.proofs.Lifted.{lift_at, values_lift}
 use Rattle.df_ends.specs.OfValues.{firing_of, of_values}

@@ -1,10 +1,12 @@
 -- In balanced cells, where loops have places, what a firing waits for has a lower rank.
 use Rattle.std.proofs.Common.{◌≡◌, ℕ, zero, suc, ◌+◌, ◌*◌, ◌<◌, ◌≤◌, ◌==◌, ◌&&◌, ◌||◌, Bool, true, false, nat_lt, List}
-use Rattle.std.proofs.Common.{[], ◌∷◌, ◌++◌, get_or, length, map, take, Option, Some, None, refl, sym, ◌∙◌, ap, inl, inr, arith}
+use Rattle.std.proofs.Common.{[], ◌∷◌, ◌++◌, get_or, length, map, take, Option, Some, None, refl, sym, ◌∙◌, ap, inl}
+use Rattle.std.proofs.Common.{inr, arith}
 use Rattle.std.specs.Prelude.{◌⊎◌, is_some, IsTrue}
 use Rattle.std.specs.List.{AllByRecursion, flat_map}
 use Rattle.std.proofs.lemmas.List.{length-map, get_or-map}
-use Rattle.std.proofs.lemmas.Bool.{both_ways, cases_Bool, cases_lt, or_left, or_right, and_from, eq-eqb, lt-ltb, ltb-true}
+use Rattle.std.proofs.lemmas.Bool.{both_ways, cases_Bool, cases_lt, or_left, or_right, and_from, eq-eqb, lt-ltb}
+use Rattle.std.proofs.lemmas.Bool.{ltb-true}
 use Rattle.df_values.specs.declared.values.Value.{Value}
 use Rattle.df_cells.specs.declared.cells.CellId.{CellId}
 use Rattle.df_cells.specs.declared.cells.Dest.{Dest}
@@ -88,15 +90,19 @@ module _ (g : Firing → Option Member) where
     where
       next : (o : Option Member) → g f ≡ o
           → (length (stream (take (suc i) label)) ≡ suc (length (stream (take i label)))
-          → get_or (block_turns (stream label)) (length (stream (take i label))) 0 ≡ block_turn (firing_at label i).turn)
-          → get_or (block_turns (at_turn f.turn (g f) ++ stream label)) (length (at_turn f.turn (g f) ++ stream (take i label))) 0
+          → get_or (block_turns (stream label)) (length (stream (take i label))) 0
+          ≡ block_turn (firing_at label i).turn)
+          → get_or (block_turns (at_turn f.turn (g f) ++ stream label))
+          (length (at_turn f.turn (g f) ++ stream (take i label))) 0
           ≡ block_turn (firing_at label i).turn
       next None is rest =
-          ap (λ o. get_or (block_turns (at_turn f.turn o ++ stream label)) (length (at_turn f.turn o ++ stream (take i label))) 0) is
+          ap (λ o. get_or (block_turns (at_turn f.turn o ++ stream label))
+          (length (at_turn f.turn o ++ stream (take i label))) 0) is
           ∙ rest (let e = ap (λ o. length (at_turn f.turn o ++ stream (take (suc i) label))) is in
           let e' = ap (λ o. length (at_turn f.turn o ++ stream (take i label))) is in omega arith)
       next (Some v) is rest =
-          ap (λ o. get_or (block_turns (at_turn f.turn o ++ stream label)) (length (at_turn f.turn o ++ stream (take i label))) 0) is
+          ap (λ o. get_or (block_turns (at_turn f.turn o ++ stream label))
+          (length (at_turn f.turn o ++ stream (take i label))) 0) is
           ∙ rest (let e = ap (λ o. length (at_turn f.turn o ++ stream (take (suc i) label))) is in
           let e' = ap (λ o. length (at_turn f.turn o ++ stream (take i label))) is in omega arith)
 
@@ -182,7 +188,8 @@ module _ (cells : List Cell) (inputs : List (List Value)) (n : ℕ) (labels : La
   proceeds u d i j h (inl p) = let t = p.0 in Forward (omega (arith, h, t)) p.1
   proceeds u d i j h (inr p) = let t = p.0 in Around (omega (arith, h, t)) p.1
 
-  module _ (rise : HeightsRise) (stay : HeightsStay) (well_formed : WellFormed cells) (balanced : IsBalanced cells) where
+  module _ (rise : HeightsRise) (stay : HeightsStay) (well_formed : WellFormed cells)
+      (balanced : IsBalanced cells) where
     joins : (d : Dest) (u : CellId) (i j : ℕ) → producer_of cells d ≡ Some u → Pairs cells labels d u.0 i j
         → Joins u.0 d.cell.0 i j
     joins d u i j fed pairs = elim (cases_Bool (same_node cells (origin cells u.0) d.cell.0)) [
@@ -213,7 +220,9 @@ module _ (cells : List Cell) (inputs : List (List Value)) (n : ℕ) (labels : La
       operands = λ d u i j fed pairs. operand_lower u.0 d.cell.0 i j (joins d u i j fed pairs);
       acknowledgements = λ d u i j k fed pairs less there.
           acknowledgement_lower u.0 d.cell.0 i j k (level_rises u.0 i k less there) (joins d u i j fed pairs);
-      loads = λ d u j k fed loaded there. absurd (both_ways (is_some (loaded_at cells d)) (ap (λ (o : Option Value). is_some o) (places.unloaded d)) loaded.some);
+      loads = λ d u j k fed loaded there. absurd
+          (both_ways (is_some (loaded_at cells d))
+          (ap (λ (o : Option Value). is_some o) (places.unloaded d)) loaded.some);
     }
 
 pub balanced_cells_have_ranks : HeightsRise → HeightsStay → BalancedCellsHaveRanks

@@ -86,7 +86,8 @@ late_stream : (g : ℕ) (s : plain.Stream) → AllByRecursion (λ x. g ≤ plain
 late_stream g [] all = tt
 late_stream g (x ∷ s) all = (all.0, late_stream g s all.1)
 
-late_of : (cells : List Cell) (inputs : List (List Value)) (labels : plain.Labels) → plain.LabelsMeet cells inputs labels
+late_of : (cells : List Cell) (inputs : List (List Value)) (labels : plain.Labels)
+    → plain.LabelsMeet cells inputs labels
     → HasNoBuffers cells → WellFormed cells → AreLate cells (of_values labels)
 late_of cells inputs labels meets bare w c =
     subst (λ s. AllByRecursion (λ x. gate_part cells c ≤ plain.block_turn x.0) s) (sym (answered_of (labels c)))

@@ -23,7 +23,8 @@ use Rattle.df_realize.proofs.Placed.{places}
 module _ (skeletons : SkeletonsAreWellFormed) (zoned : SkeletonsHaveZones) (obeys : ObeysKinds) (tell : SkeletonsTell)
     (lengths : ValidInputsHaveLengths) (give : ZonesGivePlaces) (for_every : RealizingCellsRealizeForAll) where
   tells : (flat : Flat) (cells : List Cell) → IsFlat flat → graph_of cells ≡ program_graph flat → WellFormed cells
-      → (inputs : List (List Value)) → AreValid (declarations cells) inputs → Tells cells inputs (flat_mean flat inputs)
+      → (inputs : List (List Value)) → AreValid (declarations cells) inputs
+      → Tells cells inputs (flat_mean flat inputs)
   tells flat cells is same well_formed inputs valid =
       let declares = declarations_are flat cells (skeletons.inputs flat cells is same) in
       let fits = subst (λ ds. AreValid ds inputs) declares valid in
