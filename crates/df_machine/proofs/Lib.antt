@@ -1,4 +1,5 @@
 pub mod Counts
+pub mod RunEnds
 pub mod FlightKeys
 pub mod FlightNames
 pub mod Places
