@@ -11,8 +11,7 @@ use Rattle.df_cells.specs.Cells.{same_port, port_of, producer_of}
 use Rattle.df_machine.specs.declared.packets.Packet.{Packet}
 use Rattle.df_machine.specs.declared.packets.Packet.TheVariants.{Operation, Operand, Acknowledgement}
 use Rattle.df_machine.specs.CanRun.{CanRun}
-use Rattle.df_machine.specs.Events.{event_of}
-use Rattle.df_machine.specs.Flights.{name_of, AreApart, Fits}
+use Rattle.df_machine.specs.Flights.{packet_name, AreApart, Fits}
 use Rattle.df_machine.specs.Sound.{bit, is_operation, is_on, tokens, room_from, Sound}
 use Rattle.df_machine.specs.States.{State, is_busy}
 use Rattle.df_machine.proofs.Counts.{bit-le, same_port-refl}
@@ -43,7 +42,7 @@ same_from_name d e a b n =
     ap (λ i. port_of i d.port.0) c ∙ ap (λ q. port_of e.cell.0 q) p
 
 apart_firing : (n c : ℕ) (packets : List Packet) → count_by (is_operation c) packets ≤ 0 → AllByRecursion (IsPlaced n) packets
-    → AllByRecursion (λ other. name_of (event_of other) ≢ 4 * c) packets
+    → AllByRecursion (λ other. packet_name other ≢ 4 * c) packets
 apart_firing n c [] none placed = tt
 apart_firing n c (Operation e x ∷ packets) none placed =
     let l = sum_by-cons (λ q. bit (is_operation c q)) (Operation e x) packets in (
@@ -58,7 +57,7 @@ apart_firing n c (Acknowledgement d ∷ packets) none placed =
     (λ same. absurd (omega arith), apart_firing n c packets (omega arith) placed.1)
 
 apart_arc : (n : ℕ) (d : Dest) (packets : List Packet) → d.port.0 < 3 → count_by (is_on d) packets ≤ 0 → AllByRecursion (IsPlaced n) packets
-    → AllByRecursion (λ other. name_of (event_of other) ≢ 4 * d.cell.0 + 1 + d.port.0) packets
+    → AllByRecursion (λ other. packet_name other ≢ 4 * d.cell.0 + 1 + d.port.0) packets
 apart_arc n d [] port none placed = tt
 apart_arc n d (Operation e x ∷ packets) port none placed =
     let l = sum_by-cons (λ q. bit (is_on d q)) (Operation e x) packets in
@@ -86,7 +85,7 @@ apart_few n (Acknowledgement d ∷ packets) few placed =
     let l = sum_by-cons (λ q. bit (is_on d q)) (Acknowledgement d) packets in let m = few.arcs d in let one = ap bit (same_port-refl d) in
     (apart_arc n d packets placed.0.1 (omega arith) placed.1, apart_few n packets (few_behind (Acknowledgement d) packets few) placed.1)
 
-within_placed : (n : ℕ) (packets : List Packet) → AllByRecursion (IsPlaced n) packets → AllByRecursion (λ packet. name_of (event_of packet) < 4 * n) packets
+within_placed : (n : ℕ) (packets : List Packet) → AllByRecursion (IsPlaced n) packets → AllByRecursion (λ packet. packet_name packet < 4 * n) packets
 within_placed n [] placed = tt
 within_placed n (Operation c x ∷ packets) placed = (let a = placed.0 in omega arith, within_placed n packets placed.1)
 within_placed n (Operand d v ∷ packets) placed = (let a = placed.0.0 in let b = placed.0.1 in omega arith, within_placed n packets placed.1)
