@@ -1,5 +1,5 @@
 -- No two packets in flight have one name: a cell has one firing under way, and one packet is on an arc.
-use Rattle.std.proofs.Common.{◌≡◌, ◌≢◌, ℕ, suc, ◌+◌, ◌*◌, ◌<◌, ◌≤◌, Bool, true, false, cond, List, [], ◌∷◌, length, Option, Some, None, refl, sym, ◌∙◌, ap, subst, arith}
+use Rattle.std.proofs.Common.{◌≡◌, ◌≢◌, ℕ, suc, ◌+◌, ◌-◌, ◌%◌, ◌*◌, ◌<◌, ◌≤◌, Bool, true, false, cond, List, [], ◌∷◌, length, Option, Some, None, refl, sym, ◌∙◌, ap, subst, arith}
 use Rattle.std.specs.Prelude.{slice_get}
 use Rattle.std.specs.List.{count_by, AllByRecursion}
 use Rattle.std.proofs.lemmas.List.Sums.{sum_by-cons}
@@ -11,6 +11,11 @@ use Rattle.df_cells.specs.Cells.{same_port, port_of, producer_of}
 use Rattle.df_machine.specs.declared.packets.Packet.{Packet}
 use Rattle.df_machine.specs.declared.packets.Packet.TheVariants.{Operation, Operand, Acknowledgement}
 use Rattle.df_machine.specs.CanRun.{CanRun}
+use Rattle.df_machine.specs.declared.packets.Event.{Event}
+use Rattle.df_machine.specs.declared.packets.Event.TheVariants.{Fire}
+use Rattle.df_machine.specs.Events.{enabled, possible, event_of, event_from, event_at, chosen_event}
+use Rattle.df_machine.specs.Laws.{IsOfCells}
+use Rattle.df_machine.proofs.SoundRuns.{enabled_at}
 use Rattle.df_machine.specs.Flights.{packet_name, AreApart, Fits}
 use Rattle.df_machine.specs.Sound.{bit, is_operation, is_on, tokens, room_from, Sound}
 use Rattle.df_machine.specs.States.{State, is_busy}
@@ -101,6 +106,25 @@ placed_at cells s i (Operand d v) w sound at =
 placed_at cells s i (Acknowledgement d) w sound at =
     let here = on_arc cells s i (Acknowledgement d) d sound at (same_port-refl d) in let fed = fed_within cells d here.1.0 here.1.1 in
     (fed.0, let p = ports-le cells w d.cell.0 in let q = fed.1 in omega arith)
+
+-- the event of a packet, and of a cell or a packet
+of_packet : (n : ℕ) (p : Packet) → IsPlaced n p → IsOfCells n (event_of p)
+of_packet n (Operation c x) placed = placed
+of_packet n (Operand d v) placed = placed
+of_packet n (Acknowledgement d) placed = placed
+
+of_either : (n : ℕ) (cell : Option ℕ) (packet : Option Packet) (event : Event) → ((c : ℕ) → cell ≡ Some c → c < n) → ((p : Packet) → packet ≡ Some p → IsPlaced n p)
+    → event_from cell packet ≡ Some event → IsOfCells n event
+of_either n (Some c) packet event within placed is = subst (IsOfCells n) (let e : Fire (record { 0 = c }) ≡ event = cc in e) (within c refl)
+of_either n None (Some p) event within placed is = subst (IsOfCells n) (let e : event_of p ≡ event = cc in e) (of_packet n p (placed p refl))
+of_either n None None event within placed is = cc
+
+pub event_placed : (cells : List Cell) (s : State) (k : ℕ) (event : Event) → CanRun cells → Sound cells s → chosen_event cells s k ≡ Some event → IsOfCells (length cells) event
+unfolding chosen_event event_at
+event_placed cells s k event w sound is =
+    let m = k % possible cells s in let i = m - length (enabled cells s) in
+    of_either (length cells) (slice_get (enabled cells s) m) (slice_get s.packets i) event
+    (λ c at. (enabled_at cells s m c at).0) (λ p at. placed_at cells s i p w sound at) is
 
 all_by_places : {A : Type 0} (P : A → Type 0) (xs : List A) → ((i : ℕ) (x : A) → slice_get xs i ≡ Some x → P x) → AllByRecursion P xs
 all_by_places P [] each = tt
