@@ -23,6 +23,7 @@ pub mod ToldRuns
 pub mod Steps
 pub mod Looks
 pub mod PlaceOf
+pub mod OnePlace
 pub mod Drained
 pub mod ThreeCellsRun
 pub mod Starts
