@@ -1,5 +1,5 @@
 -- The line of each event.
-use Rattle.std.specs.Prelude.{ℕ, List, ◌∷◌, ◌++◌, codes}
+use Rattle.std.specs.Prelude.{ℕ, List, ◌++◌, codes}
 use Rattle.std.specs.Fmt.{decimal}
 use Rattle.df_values.specs.Spelling.{spelled}
 use Rattle.df_cells.specs.declared.cells.Dest.{Dest}

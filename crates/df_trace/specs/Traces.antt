@@ -6,7 +6,6 @@ use Rattle.df_cells.specs.declared.cells.Cell.{Cell}
 use Rattle.df_machine.specs.declared.packets.Event.{Event}
 use Rattle.df_machine.specs.declared.runs.RunEnd.{RunEnd}
 use Rattle.df_machine.specs.Events.{possible, chosen, chosen_event}
-use Rattle.df_machine.specs.Runs.{after}
 use Rattle.df_machine.specs.Seen.{Loaded}
 use Rattle.df_machine.specs.States.{State, start}
 use Rattle.df_histories.specs.Reached.{IsAfter}
