@@ -28,7 +28,7 @@ with_line : (found : Option Event) (line : List ℕ) → option_map line_of foun
 with_line None line is = cc
 with_line (Some e) line is = (e, refl, some_same line (line_of e) (sym is))
 
-all_cells : (n : ℕ) (e : Event) → n ≤ 65536 → IsOfCells n e → IsOfCells 65536 e
+pub all_cells : (n : ℕ) (e : Event) → n ≤ 65536 → IsOfCells n e → IsOfCells 65536 e
 all_cells n (Fire c) most within = omega arith
 all_cells n (Perform c) most within = omega arith
 all_cells n (Arrive d v) most within = (let a = within.0 in omega arith, within.1)

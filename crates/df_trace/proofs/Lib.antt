@@ -2,3 +2,4 @@ pub mod Names
 pub mod Lines
 pub mod Choices
 pub mod Replays
+pub mod OneLine

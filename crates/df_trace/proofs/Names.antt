@@ -73,7 +73,7 @@ no_larger law text rest number n len most small less leads fits found past =
 
 -- ---- what is read of a line behind its letter
 
-whole : (rest : List ℕ) (n : ℕ) → rest ≡ decimal n → LeadsWith rest n []
+pub whole : (rest : List ℕ) (n : ℕ) → rest ≡ decimal n → LeadsWith rest n []
 whole rest n is = record { parts = is ∙ sym (append-nil (decimal n)); ends = refl }
 
 -- whatever cell the text leads with, it is this one; so of ports
@@ -86,7 +86,7 @@ LeadsToNone rest = (n : ℕ) (behind : List ℕ) → n < 65536 → LeadsWith res
 abbrev pub LeadsToPort : List ℕ → Option Dest → Type 0
 LeadsToPort rest port = (d : Dest) (behind : List ℕ) → d.cell.0 < 65536 → d.port.0 < 3 → begins_with_digit behind ≡ false → rest ≡ port_text d ++ behind → port ≡ Some d
 
-that_cell : (c d : CellId) → c.0 ≡ d.0 → c ≡ d
+pub that_cell : (c d : CellId) → c.0 ≡ d.0 → c ≡ d
 that_cell c d is = ap (λ n. record { 0 = n }) is
 
 pub fires : (line rest : List ℕ) (cell : CellId) (event : Event) → line ≡ 70 ∷ 32 ∷ rest → LeadsToCell rest cell → IsOfCells 65536 event → line ≡ line_of event → Some (action.Fire cell) ≡ Some (action_of event)

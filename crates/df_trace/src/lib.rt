@@ -3,6 +3,7 @@
 //! `event_line` (line) writes the line of an event, and `replay` (replay) does the events whose lines a text has.
 #![tactic(auto)]
 
+pub mod laws;
 pub mod line;
 mod naming;
 pub mod replay;
