@@ -4,3 +4,4 @@ pub mod Choices
 pub mod Replays
 pub mod OneLine
 pub mod Traced
+pub mod Readings

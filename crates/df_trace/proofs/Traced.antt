@@ -43,7 +43,7 @@ nothing_in : {A : Type 0} (xs : List A) (i : ℕ) → length xs ≡ 0 → slice_
 nothing_in [] i none = refl
 nothing_in (x ∷ xs) i none = absurd (omega arith)
 
-no_event : (cells : List Cell) (s : State) (k : ℕ) → possible cells s ≡ 0 → chosen_event cells s k ≡ None
+pub no_event : (cells : List Cell) (s : State) (k : ℕ) → possible cells s ≡ 0 → chosen_event cells s k ≡ None
 unfolding possible chosen_event event_at
 no_event cells s k none =
     let n = length (enabled cells s) in let m = k % possible cells s in
@@ -83,7 +83,7 @@ traced_more old t new all before left text event w h =
 
 -- ---- the end
 
-run_append : (cells : List Cell) (inputs : List (List Value)) (s : State) (ks more : List ℕ) → run cells inputs s (ks ++ more) ≡ run cells inputs (run cells inputs s ks) more
+pub run_append : (cells : List Cell) (inputs : List (List Value)) (s : State) (ks more : List ℕ) → run cells inputs s (ks ++ more) ≡ run cells inputs (run cells inputs s ks) more
 run_append cells inputs s [] more = refl
 run_append cells inputs s (k ∷ ks) more = run_append cells inputs (chosen cells inputs s k) ks more
 
