@@ -322,7 +322,11 @@ fn both_balancers_ask_for_as_many_buffers(rt: HostRuntime) -> Result<(), Fail> {
     for count in [2u32, 20, 60, 100] {
         let mut again = seed;
         let asked = certified(alloc, &Cancel, sums(alloc, &mut again, count)?)?;
-        assert_eq!(rt; certified(alloc, &Paths, sums(alloc, &mut seed, count)?)?, asked, "{count}");
+        assert_eq!(rt;
+            certified(alloc, &Paths, sums(alloc, &mut seed, count)?)?,
+            asked,
+            "{count}"
+        );
     }
     Ok(())
 }
