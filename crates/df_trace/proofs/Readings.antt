@@ -12,7 +12,7 @@ use Rattle.df_machine.specs.Runs.{run, after, events_from, events}
 use Rattle.df_machine.specs.States.{State, start}
 use Rattle.df_trace.specs.Laws.{LinesAreApart}
 use Rattle.df_trace.specs.Lines.{line_of}
-use Rattle.df_trace.specs.Traces.{HaveLines, IsNoLine, AreLines, IsFirstWrong}
+use Rattle.df_trace.specs.Traces.{HaveLines, IsNoLine, AreLines, IsWrongAt}
 use Rattle.df_trace.proofs.Choices.{with_line}
 use Rattle.df_trace.proofs.Traced.{run_append, no_event}
 
@@ -104,7 +104,7 @@ cut_at : (lines : List (List ℕ)) (i : ℕ) → i < length lines → lines ≡ 
 cut_at lines i within = sym (take-append-drop i lines) ∙ ap (λ l. take i lines ++ l) (drop_more lines i [] within)
 
 pub not_both : LinesAreApart → (cells : List Cell) (inputs : List (List Value)) (lines : List (List ℕ)) (number : ℕ) → WellFormed cells
-    → AreLines cells inputs lines → IsFirstWrong cells inputs lines number → ⊥
+    → AreLines cells inputs lines → IsWrongAt cells inputs lines number → ⊥
 unfolding after
 not_both law cells inputs lines number w right wrong =
     let i = number - 1 in
@@ -128,7 +128,7 @@ get_less (l ∷ lines) zero (suc j) less = refl
 get_less (l ∷ lines) (suc i) (suc j) less = get_less lines i j (omega arith)
 
 no_earlier : LinesAreApart → (cells : List Cell) (inputs : List (List Value)) (lines : List (List ℕ)) (m n : ℕ) → WellFormed cells
-    → IsFirstWrong cells inputs lines m → IsFirstWrong cells inputs lines n → m < n → ⊥
+    → IsWrongAt cells inputs lines m → IsWrongAt cells inputs lines n → m < n → ⊥
 no_earlier law cells inputs lines m n w first second less =
     let fewer : length (take (n - 1) lines) ≡ n - 1 = length-take-le (n - 1) lines (let a = second.within in omega arith) in
     not_both law cells inputs (take (n - 1) lines) m w (record { choices = second.choices; have = second.have }) (record {
@@ -140,7 +140,7 @@ no_earlier law cells inputs lines m n w first second less =
     })
 
 pub one_wrong : LinesAreApart → (cells : List Cell) (inputs : List (List Value)) (lines : List (List ℕ)) (m n : ℕ) → WellFormed cells
-    → IsFirstWrong cells inputs lines m → IsFirstWrong cells inputs lines n → m ≡ n
+    → IsWrongAt cells inputs lines m → IsWrongAt cells inputs lines n → m ≡ n
 one_wrong law cells inputs lines m n w first second = elim (cases_lt m n) [
   | inl less ↦ absurd (no_earlier law cells inputs lines m n w first second less)
   | inr most ↦ elim (cases_eq m n) [
@@ -179,7 +179,7 @@ decided cells inputs s (line ∷ lines) neither = neither.1 (record {
 })
 
 pub some_answer : (cells : List Cell) (inputs : List (List Value)) (lines : List (List ℕ))
-    → ((AreLines cells inputs lines → ⊥) × ((number : ℕ) → IsFirstWrong cells inputs lines number → ⊥)) → ⊥
+    → ((AreLines cells inputs lines → ⊥) × ((number : ℕ) → IsWrongAt cells inputs lines number → ⊥)) → ⊥
 unfolding after
 some_answer cells inputs lines neither = decided cells inputs (start cells) lines (
   λ choices have. neither.0 (record { choices = choices; have = have }),

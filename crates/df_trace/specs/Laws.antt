@@ -8,7 +8,7 @@ use Rattle.df_machine.specs.Events.{possible, chosen_event}
 use Rattle.df_machine.specs.Runs.{after, events}
 use Rattle.df_machine.specs.States.{start}
 use Rattle.df_trace.specs.Lines.{line_of}
-use Rattle.df_trace.specs.Traces.{HaveLines, AreLines, IsFirstWrong}
+use Rattle.df_trace.specs.Traces.{HaveLines, AreLines, IsWrongAt}
 
 -- choices of events with the same lines lead to one state, and as many events were done as there are lines
 abbrev pub LinesLeadToOneState : Type 0
@@ -22,14 +22,14 @@ LinesAreEvents = (cells : List Cell) (inputs : List (List Value)) (choices : Lis
 -- lines are not both those of a run and wrong, and no two are the first wrong one
 pub record HaveOneAnswer : Type 0 where
   pub right : (cells : List Cell) (inputs : List (List Value)) (lines : List (List ℕ)) (number : ℕ) → WellFormed cells
-      → AreLines cells inputs lines → IsFirstWrong cells inputs lines number → ⊥
+      → AreLines cells inputs lines → IsWrongAt cells inputs lines number → ⊥
   pub wrong : (cells : List Cell) (inputs : List (List Value)) (lines : List (List ℕ)) (m n : ℕ) → WellFormed cells
-      → IsFirstWrong cells inputs lines m → IsFirstWrong cells inputs lines n → m ≡ n
+      → IsWrongAt cells inputs lines m → IsWrongAt cells inputs lines n → m ≡ n
 
 -- it can't be that they are neither
 abbrev pub HaveSomeAnswer : Type 0
 HaveSomeAnswer = (cells : List Cell) (inputs : List (List Value)) (lines : List (List ℕ))
-    → ¬ (¬ AreLines cells inputs lines × ((number : ℕ) → ¬ IsFirstWrong cells inputs lines number))
+    → ¬ (¬ AreLines cells inputs lines × ((number : ℕ) → ¬ IsWrongAt cells inputs lines number))
 
 -- choices of events with one line are of one place among the possible events
 abbrev pub LinesAreApart : Type 0

@@ -53,7 +53,7 @@ pub record AreLines (cells : List Cell) (inputs : List (List Value)) (lines : Li
   pub have : HaveLines cells inputs (start cells) choices lines
 
 -- the lines before this one are, and it is the line of no possible event then
-pub record IsFirstWrong (cells : List Cell) (inputs : List (List Value)) (lines : List (List ℕ)) (number : ℕ) : Type 0 where
+pub record IsWrongAt (cells : List Cell) (inputs : List (List Value)) (lines : List (List ℕ)) (number : ℕ) : Type 0 where
   pub some : 1 ≤ number
   pub within : number ≤ length lines
   pub choices : List ℕ
