@@ -1,5 +1,5 @@
 -- What a replay gives, of the cells and inputs that it began with.
-use Rattle.std.proofs.Common.{◌≡◌, ◌≤◌, ◌-◌, ℕ, List, [], take, get_or, length, ◌++◌, codes, Some, Err, refl, sym, ◌∙◌, ap, subst, arith}
+use Rattle.std.proofs.Common.{◌≡◌, ◌≤◌, ℕ, List, ◌++◌, codes, Err, refl, sym, ◌∙◌, ap, subst}
 use Rattle.std.specs.Fmt.{decimal}
 use Rattle.std.specs.Option.{option_map}
 use Rattle.df_values.specs.declared.values.Value.{Value}
@@ -11,7 +11,7 @@ use Rattle.df_machine.specs.Laws.{TellsShortRuns, TellsEvents}
 use Rattle.df_machine.specs.Reports.{Report}
 use Rattle.df_machine.specs.Runs.{after, events}
 use Rattle.df_machine.specs.Seen.{Loaded}
-use Rattle.df_machine.specs.States.{start, told}
+use Rattle.df_machine.specs.States.{start}
 use Rattle.df_trace.specs.Laws.{LinesAreEvents}
 use Rattle.df_trace.specs.Lines.{line_of}
 use Rattle.df_trace.specs.Traces.{lines_of, AreLines, IsWrongAt, ReplaysAll, StopsAt}

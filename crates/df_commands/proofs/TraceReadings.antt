@@ -1,5 +1,5 @@
 -- The text of a trace has one reading: lines of possible events, or one refusal.
-use Rattle.std.proofs.Common.{◌≡◌, ℕ, List, Ok, Err, refl, sym, ap, subst, ◌∙◌, codes, ◌++◌}
+use Rattle.std.proofs.Common.{ℕ, List, Ok, Err, refl, sym, ap, subst, ◌∙◌, codes, ◌++◌}
 use Rattle.std.specs.Fmt.{decimal}
 use Rattle.df_values.specs.declared.values.Value.{Value}
 use Rattle.df_cells.specs.declared.cells.Cell.{Cell}

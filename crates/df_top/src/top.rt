@@ -36,7 +36,7 @@ fn ended(written: Result<(), Fault>, status: Status) -> Status
 fn carry_out<F: Files, K: Sink>(files: &mut F, out: &mut K, plan: Plan<'_>) -> Status
     requires { F.mode files.old ≡ FileMode.Idle }
     ensures mode { F.mode files.new ≡ FileMode.Idle }
-    ensures stands { IsTrue F.tells → StandsFor (effect_of plan) result (IsTrue K.tells)
+    ensures stands { IsTrue F.tells → StandsFor (effect_of plan.entry) result (IsTrue K.tells)
         (record { holds = (F.told files.old).holds; written = K.written out.old })
         (record { holds = (F.told files.new).holds; written = K.written out.new }) }
     ensures no_other { IsCarriedOut result }

@@ -1,16 +1,14 @@
 use Rattle.std.proofs.Common.{◌≡◌, List, ℕ, [], Ok, Err, refl, sym, ◌∙◌, ap, subst}
 use Rattle.std.proofs.lemmas.Result.{err_from_is_err_and}
-use Rattle.df_values.specs.Inputs.{AreValid}
 use Rattle.df_values.specs.Streams.{StreamLists}
 use Rattle.df_values.specs.declared.values.Value.{Value}
 use Rattle.df_cells.specs.declared.cells.Cell.{Cell}
-use Rattle.df_cells.specs.Cells.{inputs_of, declaration_of}
+use Rattle.df_cells.specs.Cells.{inputs_of}
 use Rattle.df_celltext.specs.declared.version.Version.TheVariants.{Two}
 use Rattle.df_iotext.specs.Inputs.{HaveOwnNames}
-use Rattle.std.specs.Prelude.{map}
 use Rattle.df_machine.specs.Reports.{report}
 use Rattle.df_trace.specs.Traces.{lines_of}
-use Rattle.df_commands.specs.Judged.{StopsAs, GivesMeaning}
+use Rattle.df_commands.specs.Judged.{GivesMeaning}
 use Rattle.df_commands.specs.Reports.{report_text}
 use Rattle.df_commands.specs.Texts.{ReadsCellFile, ReadsInputText, ReadsTraceFile}
 use Rattle.df_commands.specs.Verdicts.{Verdict, Accepted, RunLines, AfterText}

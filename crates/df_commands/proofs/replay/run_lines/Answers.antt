@@ -1,6 +1,6 @@
 use Rattle.std.proofs.Common.{◌∙◌, subst}
 use Rattle.df_trace.specs.Traces.{lines_of, Refuses}
-use Rattle.df_commands.proofs.Replays.{lines_run, lines_read, trace_refused}
+use Rattle.df_commands.proofs.Replays.{lines_run, trace_refused}
 use Rattle.df_commands.proofs.replay.run_lines.Goals as goal
 
 pub returns-in-Ok-clause-does : goal.returns-in-Ok-clause-does
