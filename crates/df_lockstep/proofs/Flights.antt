@@ -183,7 +183,7 @@ all_choices cells inputs choices s =
     append_assoc (choices ++ fires cells s) (first_flight cells inputs s) (second_flight cells inputs s)
     ∙ append_assoc choices (fires cells s) (first_flight cells inputs s ++ second_flight cells inputs s)
 
-all_events : (cells : List Cell) (inputs : List (List Value)) (s : State)
+pub all_events : (cells : List Cell) (inputs : List (List Value)) (s : State)
     → length (enabled cells s) + length (all_fired cells s).packets + length (all_done cells inputs s).packets ≡ length (phase_choices cells inputs s)
 unfolding phase_choices
 all_events cells inputs s =

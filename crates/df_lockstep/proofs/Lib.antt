@@ -8,3 +8,4 @@ pub mod Short
 pub mod Drains
 pub mod Flights
 pub mod Locked
+pub mod Ends

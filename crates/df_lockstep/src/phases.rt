@@ -60,8 +60,15 @@ pub fn phase(t: &mut Tracked) -> u64
     ensures reached { (choices : List ℕ) → IsAfter t.old choices → IsAfter t.new (choices ++ phase_choices t.old.cells t.old.inputs (after t.old.cells t.old.inputs choices)) }
     ensures events { (choices : List ℕ) → IsAfter t.old choices → result ≡ length (phase_choices t.old.cells t.old.inputs (after t.old.cells t.old.inputs choices)) }
     ensures few { result ≤ 12884901885 }
+    ensures quiet { t.new.state.packets ≡ [] }
+    // It is empty exactly where no event is possible, and then it changes nothing.
+    ensures none { (result ≡ 0) ↔ (possible t.old.cells t.old.state ≡ 0) }
+    ensures still { result ≡ 0 → t.new ≡ t.old }
 {
     joins_runs();
+    tells_possible();
+    // Its cells are well-formed, and some choices led here.
+    let _machine = t.machine();
     let fires = fire_all(t);
     let operations = take_flight(t);
     let deliveries = take_flight(t);
