@@ -12,7 +12,8 @@ use Rattle.df_lockstep.specs.Phases.{after_phases}
 
 -- firing number i of a cell happens in phase k
 abbrev pub HappensIn : List Cell → List (List Value) → ℕ → ℕ → ℕ → Type 0
-HappensIn cells inputs c i k = (firings (after_phases cells inputs k) c ≡ i) × (firings (after_phases cells inputs (suc k)) c ≡ suc i)
+HappensIn cells inputs c i k =
+    (firings (after_phases cells inputs k) c ≡ i) × (firings (after_phases cells inputs (suc k)) c ≡ suc i)
 
 -- it happens in a phase of number at most n
 abbrev pub HappensBy : List Cell → List (List Value) → ℕ → ℕ → ℕ → Type 0
@@ -20,7 +21,8 @@ HappensBy cells inputs c i n = (k : ℕ) × (k ≤ n) × HappensIn cells inputs 
 
 -- each firing of the labels happens in a phase of number at most its rank
 abbrev pub KeepsRanks : List Cell → List (List Value) → Labels → (ℕ → ℕ → ℕ) → Type 0
-KeepsRanks cells inputs labels rank = (c i : ℕ) → c < length cells → i < length (labels c) → HappensBy cells inputs c i (rank c i)
+KeepsRanks cells inputs labels rank =
+    (c i : ℕ) → c < length cells → i < length (labels c) → HappensBy cells inputs c i (rank c i)
 
 -- no cell is on a cycle
 abbrev pub HasNoLoops : List Cell → Type 0

@@ -1,5 +1,6 @@
 //! What holds of every run in lock step.
-ghost use Rattle.df_lockstep.specs.Laws.{PhasesAreRuns, PhasesAreQuiet, PhasesKeepRanks, KeepsFullRate, DrainsInTime, WholeInTime};
+ghost use Rattle.df_lockstep.specs.Laws.{PhasesAreRuns, PhasesAreQuiet, PhasesKeepRanks};
+ghost use Rattle.df_lockstep.specs.Laws.{KeepsFullRate, DrainsInTime, WholeInTime};
 
 use df_histories::laws::follows_labels;
 use df_labels::laws::{labels_give_histories, turns_rise, turns_shift};

@@ -19,7 +19,8 @@ use df_rank::tracked::drained;
 /// Lets all enabled cells fire, and tells how many they were.
 fn fire_all(t: &mut Tracked) -> u32
     ensures machine { t.new ≡ record t.old { state = t.new.state } }
-    ensures count { (choices : List ℕ) → IsAfter t.old choices → result ≡ length (enabled t.old.cells (after t.old.cells t.old.inputs choices)) }
+    ensures count { (choices : List ℕ) → IsAfter t.old choices
+        → result ≡ length (enabled t.old.cells (after t.old.cells t.old.inputs choices)) }
     ensures reached { (choices : List ℕ) → IsAfter t.old choices → IsAfter t.new (choices ++ replicate result 0) }
 {
     tells_possible();
@@ -36,8 +37,10 @@ fn fire_all(t: &mut Tracked) -> u32
 /// Takes all packets that are in flight now, the oldest first, and tells how many they were.
 fn take_flight(t: &mut Tracked) -> u32
     ensures machine { t.new ≡ record t.old { state = t.new.state } }
-    ensures count { (choices : List ℕ) → IsAfter t.old choices → result ≡ length (after t.old.cells t.old.inputs choices).packets }
-    ensures reached { (choices : List ℕ) → IsAfter t.old choices → IsAfter t.new (choices ++ flight_choices t.old.cells t.old.inputs (after t.old.cells t.old.inputs choices)) }
+    ensures count { (choices : List ℕ) → IsAfter t.old choices
+        → result ≡ length (after t.old.cells t.old.inputs choices).packets }
+    ensures reached { (choices : List ℕ) → IsAfter t.old choices
+        → IsAfter t.new (choices ++ flight_choices t.old.cells t.old.inputs (after t.old.cells t.old.inputs choices)) }
 {
     tells_possible();
     joins_runs();
@@ -57,8 +60,10 @@ fn take_flight(t: &mut Tracked) -> u32
 pub fn phase(t: &mut Tracked) -> u64
     ensures machine { t.new ≡ record t.old { state = t.new.state } }
     // Whatever choices led here, those of a phase from there come behind them.
-    ensures reached { (choices : List ℕ) → IsAfter t.old choices → IsAfter t.new (choices ++ phase_choices t.old.cells t.old.inputs (after t.old.cells t.old.inputs choices)) }
-    ensures events { (choices : List ℕ) → IsAfter t.old choices → result ≡ length (phase_choices t.old.cells t.old.inputs (after t.old.cells t.old.inputs choices)) }
+    ensures reached { (choices : List ℕ) → IsAfter t.old choices
+        → IsAfter t.new (choices ++ phase_choices t.old.cells t.old.inputs (after t.old.cells t.old.inputs choices)) }
+    ensures events { (choices : List ℕ) → IsAfter t.old choices
+        → result ≡ length (phase_choices t.old.cells t.old.inputs (after t.old.cells t.old.inputs choices)) }
     ensures few { result ≤ 12884901885 }
     ensures quiet { t.new.state.packets ≡ [] }
     // It is empty exactly where no event is possible, and then it changes nothing.
@@ -98,7 +103,8 @@ pub fn lockstep(t: &mut Tracked, limit: u64) -> LockEnd
     ensures labels { OnTrue result.drained (HasLabelResults t.new) }
     ensures whole { OnTrue result.drained (HasWholeResults t.new) }
     // Balanced cells without loops that have labels take no more phases than the bound, and are drained then.
-    ensures in_time { (labels : Labels) → IsBalanced t.old.cells → HasNoLoops t.old.cells → LabelsMeet t.old.cells t.old.inputs labels
+    ensures in_time { (labels : Labels) → IsBalanced t.old.cells → HasNoLoops t.old.cells
+        → LabelsMeet t.old.cells t.old.inputs labels
         → (result.phases ≤ phases_at_most t.old.cells) × (phases_at_most t.old.cells ≤ limit → IsTrue result.drained) }
 {
     tells_possible();
