@@ -46,7 +46,12 @@ impl Model for TracedRun {
 
 impl TracedRun {
     /// The run of the cells on the inputs by a schedule. The only error is want of memory.
-    pub fn new(alloc: Global, cells: Cells, inputs: Streams, schedule: Schedule) -> Result<TracedRun, Memory>
+    pub fn new(
+        alloc: Global,
+        cells: Cells,
+        inputs: Streams,
+        schedule: Schedule,
+    ) -> Result<TracedRun, Memory>
         requires well_formed { WellFormed cells }
         requires valid { AreValid (declarations cells) inputs.lists }
         ensures { IfOk result (λ run. run ≡ record { cells = cells; inputs = inputs.lists; choices = choices_of schedule }) }

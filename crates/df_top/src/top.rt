@@ -45,7 +45,10 @@ fn carry_out<F: Files, K: Sink>(files: &mut F, out: &mut K, plan: Plan<'_>) -> S
     ensures counts { HasWriteCause ⊥ (F.faults files.old) (F.faults files.new) }
     ensures out_counts { HasSinkCause ⊥ (K.faults out.old) (K.faults out.new) }
 {
-    let Plan { files: made, ending } = plan;
+    let Plan {
+        files: made,
+        ending,
+    } = plan;
     match write_files(files, made.as_slice()) {
         Ok(()) => match say(out, ending) {
             Ok(true) => Status::Done,
