@@ -1,5 +1,5 @@
 -- Lists of members up to their first nothing.
-use Rattle.std.proofs.Common.{◌≡◌, ℕ, zero, suc, ◌+◌, ◌<◌, List, [], ◌∷◌, ◌++◌, length, take, get_or, refl, ap, ◌∙◌, sym, arith, add-one, Bool, true, false, Some, None}
+use Rattle.std.proofs.Common.{◌≡◌, ℕ, zero, suc, ◌+◌, ◌<◌, List, [], ◌∷◌, ◌++◌, length, take, get_or, refl, ap, arith, add-one, Bool, true, false, Some, None}
 use Rattle.df_values.specs.declared.values.Value.{Value}
 use Rattle.df_partial.specs.Members.{Member, cut}
 

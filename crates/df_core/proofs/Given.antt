@@ -1,5 +1,5 @@
 -- What each form of a term gives where loops may make so many turns, by what it holds.
-use Rattle.std.proofs.Common.{◌≡◌, ℕ, ℤ, zero, suc, ◌+ℤ◌, List, [], ◌∷◌, ◌++◌, map, fold, length, ap, refl, sym, ◌∙◌, get_or, Some, None}
+use Rattle.std.proofs.Common.{◌≡◌, ℕ, ℤ, zero, suc, ◌+ℤ◌, List, [], ◌∷◌, ◌++◌, map, fold, length, ap, refl, sym, ◌∙◌, get_or, Some}
 use Rattle.df_values.specs.declared.values.Value.{Value}
 use Rattle.df_values.specs.declared.values.Value.TheVariants.{Int, Error}
 use Rattle.df_values.specs.declared.values.ErrorValue.TheVariants.{Undef}
@@ -88,9 +88,9 @@ pub loop_is : (t first : Term) (more : List Term) (test : Term) (next : List Ass
 loop_is t first more test next last place locals is =
     member_rolled t (Term-F.Loop first more test next last) place locals (is ∙ sym (n.rolls-Loop first more test next last))
     ∙ (ap (turned (term_member test place) (moved (length locals) (all_given place (map (λ (a : Assignment). (a.name, term_member a.value)) next))) (term_member last place) place.turns)
-        (bound_map place (bind place locals first) more)
+    (bound_map place (bind place locals first) more)
     ∙ turned_map (term_member test place) (term_member last place) (moved (length locals) (all_given place (map (λ (a : Assignment). (a.name, term_member a.value)) next)))
-        (moved (length locals) (given_with place next)) (λ ls. ap (fold _ ls) (given_map place ls next)) place.turns (bound_with place (bind place locals first) more))
+    (moved (length locals) (given_with place next)) (λ ls. ap (fold _ ls) (given_map place ls next)) place.turns (bound_with place (bind place locals first) more))
 
 pub ruleset forms = (constant, local, index, outer, element, previous, change)
 

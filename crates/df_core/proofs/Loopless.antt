@@ -1,10 +1,9 @@
 -- Of a program without loops each member is known, and it is the value that the program means.
-use Rattle.std.proofs.Common.{◌≡◌, ℕ, ℤ, zero, suc, pos, negsuc, ◌+◌, ◌+ℤ◌, ◌-ℤ◌, List, [], ◌∷◌, ◌++◌, map, fold, length, refl, ap, sym, ◌∙◌, get_or, Bool, true, false, ◌&&◌, Option, Some, None, arith}
+use Rattle.std.proofs.Common.{◌≡◌, ℕ, ℤ, zero, suc, pos, negsuc, ◌+ℤ◌, ◌-ℤ◌, List, [], ◌∷◌, ◌++◌, map, fold, refl, ap, sym, ◌∙◌, Bool, true, false, ◌&&◌, Option, Some, None, arith}
 use Rattle.std.proofs.Math.ListN.{get_or-map}
 use Rattle.std.proofs.lemmas.Simd.{map-map}
 use Rattle.std.specs.List.{list_all, range_with_len}
 use Rattle.df_values.specs.declared.kinds.Binary.{Binary}
-use Rattle.df_values.specs.declared.kinds.Unary.{Unary}
 use Rattle.df_values.specs.declared.kinds.Op.{Op}
 use Rattle.df_values.specs.declared.inputs.Input.{Input}
 use Rattle.df_values.specs.declared.inputs.Extent.{Extent}
@@ -12,14 +11,13 @@ use Rattle.df_values.specs.declared.values.Value.{Value}
 use Rattle.df_values.specs.declared.values.Value.TheVariants.{Int, Truth, Error}
 use Rattle.df_values.specs.declared.values.ErrorValue.TheVariants.{Undef, MissElt}
 use Rattle.df_values.specs.Operators.{chosen, value_at_place}
-use Rattle.df_values.specs.Tables.{binary_answer, unary_answer}
+use Rattle.df_values.specs.Tables.{binary_answer}
 use Rattle.df_partial.specs.Members.{Member, known, paired, changed, decided, cut}
 use Rattle.df_core.specs.declared.terms.Term.{Term, roll-Term}
 use Rattle.df_core.specs.declared.terms.Term.TheVariants as n
 use Rattle.df_core.specs.declared.terms.Term.TheOpen.{Term-F}
 use Rattle.df_core.specs.declared.terms.Step.{Step}
 use Rattle.df_core.specs.declared.terms.Branch.{Branch}
-use Rattle.df_core.specs.declared.terms.Assignment.{Assignment}
 use Rattle.df_core.specs.declared.flat.Body.{Body}
 use Rattle.df_core.specs.declared.flat.Body.TheVariants as body
 use Rattle.df_core.specs.declared.flat.Block.{Block}
@@ -31,7 +29,7 @@ use Rattle.df_core.specs.TermInduction.{Proved, without, term_induction}
 use Rattle.df_core.specs.Meaning as v
 use Rattle.df_core.specs.Meaning.{Here, term_value, value_at, members, last_grown, grown, begun, folded_more, or_undef, folded, before, made_by, with_block, given, givens, values_of, all_made, result_of, flat_mean}
 use Rattle.df_core.specs.Parts.{joined_by, branches_by, defined_by}
-use Rattle.df_core.specs.Turning.{Place, term_member, scalar_in, member_at_place, member_in, made_in, member_at, members_over, last_member, grown_over, joined_more, joined_last, folded_members, block_made, with_made, given_made, givens_made, members_of, all_in, result_in, flat_members}
+use Rattle.df_core.specs.Turning.{Place, term_member, scalar_in, member_at_place, member_in, made_in, member_at, members_over, last_member, grown_over, joined_more, joined_last, folded_members, block_made, with_made, given_made, givens_made, members_of, result_in, flat_members}
 use Rattle.df_core.specs.MemberParts.{joined_with, branches_with, bound_with}
 use Rattle.df_core.specs.Within.{layer_loopless, has_no_loop, IsLoopless, AreLoopless}
 use Rattle.df_core.proofs.Senses as s

@@ -1,16 +1,13 @@
 -- More turns change no value.
-use Rattle.std.proofs.Common.{◌≡◌, ◌≤◌, ℕ, ℤ, zero, suc, pos, negsuc, ◌+◌, ◌+ℤ◌, ◌-ℤ◌, List, [], ◌∷◌, ◌++◌, map, fold, length, set, refl, ap, sym, ◌∙◌, subst, get_or, Bool, true, false, Option, Some, None, arith}
+use Rattle.std.proofs.Common.{◌≡◌, ◌≤◌, ℕ, ℤ, zero, suc, pos, negsuc, ◌+◌, ◌+ℤ◌, ◌-ℤ◌, List, [], ◌∷◌, ◌++◌, map, fold, length, set, refl, ap, sym, ◌∙◌, subst, get_or, true, false, Option, Some, None, arith}
 use Rattle.std.specs.List.{range_with_len}
 use Rattle.df_values.specs.declared.kinds.Binary.{Binary}
 use Rattle.df_values.specs.declared.kinds.Unary.{Unary}
 use Rattle.df_values.specs.declared.kinds.Op.{Op}
-use Rattle.df_values.specs.declared.inputs.Input.{Input}
-use Rattle.df_values.specs.declared.inputs.Extent.{Extent}
 use Rattle.df_values.specs.declared.values.Value.{Value}
 use Rattle.df_values.specs.declared.values.Value.TheVariants.{Int, Truth, Error}
 use Rattle.df_values.specs.declared.values.ErrorValue.TheVariants.{Undef, MissElt}
-use Rattle.df_values.specs.Tables.{binary_answer, unary_answer}
-use Rattle.df_partial.specs.Members.{Member, known, paired, changed, decided, Stays, AllStay, AllListsStay}
+use Rattle.df_partial.specs.Members.{Member, paired, changed, decided, Stays, AllStay, AllListsStay}
 use Rattle.df_core.specs.declared.terms.Term.{Term, roll-Term}
 use Rattle.df_core.specs.declared.terms.Term.TheVariants as n
 use Rattle.df_core.specs.declared.terms.Term.TheOpen.{Term-F}
@@ -24,8 +21,8 @@ use Rattle.df_core.specs.declared.flat.Flat.{Flat}
 use Rattle.df_core.specs.declared.made.Made.{Made}
 use Rattle.df_core.specs.declared.made.Made.TheVariants.{Single, Many}
 use Rattle.df_core.specs.TermInduction.{Proved, without, term_induction}
-use Rattle.df_core.specs.Meaning.{begun, folded_more, or_undef, before}
-use Rattle.df_core.specs.Turning.{Place, term_member, scalar_in, member_at_place, member_in, no_array, made_in, assigned, moved, turned, member_at, members_over, last_member, grown_over, joined_more, joined_last, folded_members, block_made, with_made, given_made, givens_made, members_of, all_in, result_in, flat_members}
+use Rattle.df_core.specs.Meaning.{begun, folded_more}
+use Rattle.df_core.specs.Turning.{Place, term_member, scalar_in, member_at_place, member_in, made_in, assigned, moved, turned, member_at, members_over, last_member, grown_over, joined_more, joined_last, block_made, with_made, givens_made, members_of, all_in, result_in, flat_members}
 use Rattle.df_core.specs.MemberParts.{joined_with, branches_with, bind, bound_with, given_with, turned_with}
 use Rattle.df_core.proofs.Given as g
 

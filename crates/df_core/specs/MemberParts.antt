@@ -1,5 +1,5 @@
 -- What lists of terms give where loops may make so many turns, by what each term gives.
-use Rattle.std.specs.Prelude.{ℕ, ◌+◌, List, [], ◌∷◌, ◌++◌, map, fold}
+use Rattle.std.specs.Prelude.{ℕ, List, [], ◌∷◌, ◌++◌, map, fold}
 use Rattle.df_partial.specs.Members.{Member, paired, decided}
 use Rattle.df_core.specs.declared.terms.Term.{Term}
 use Rattle.df_core.specs.declared.terms.Step.{Step}

@@ -103,7 +103,13 @@ fn put(moves: &[(usize, Member)], outer: usize, locals: &mut Vec<Member>)
 impl<'a> Turn<'a> {
     /// A turn, by what the parameters and the blocks so far are, its index, in the element of a recurrence the element before,
     /// and how many turns a loop may make.
-    pub fn new(alloc: Global, made: &'a [Made], at: Integer, previous: Member, turns: u32) -> Turn<'a>
+    pub fn new(
+        alloc: Global,
+        made: &'a [Made],
+        at: Integer,
+        previous: Member,
+        turns: u32,
+    ) -> Turn<'a>
         ensures { result ≡ record { made = made.now; at = at; previous = previous; turns = turns } }
     {
         Turn {
@@ -213,7 +219,7 @@ impl<'a> Turn<'a> {
                 next,
                 last,
             } => {
-                let outer = locals.len();
+                let depth = locals.len();
                 let member = self.value(first.get(), locals)?;
                 locals.push(member)?;
                 self.define(more.get().as_slice(), locals)?;
@@ -222,7 +228,7 @@ impl<'a> Turn<'a> {
                 let mut tested = self.value(test.get(), locals)?;
                 while goes_on(left, tested) {
                     self.assign(next.get().as_slice(), locals, &mut moves)?;
-                    put(moves.as_slice(), outer, locals);
+                    put(moves.as_slice(), depth, locals);
                     left -= 1;
                     tested = self.value(test.get(), locals)?;
                 }
@@ -230,7 +236,7 @@ impl<'a> Turn<'a> {
                     Some(member) => member,
                     None => self.value(last.get(), locals)?,
                 };
-                locals.truncate(outer);
+                locals.truncate(depth);
                 Ok(member)
             }
         }
@@ -238,7 +244,12 @@ impl<'a> Turn<'a> {
 
     /// A chain from its first member on.
     #[cycle(value)]
-    fn chain(&self, first: Member, rest: &[Step], locals: &mut Vec<Member>) -> Result<Member, Memory>
+    fn chain(
+        &self,
+        first: Member,
+        rest: &[Step],
+        locals: &mut Vec<Member>,
+    ) -> Result<Member, Memory>
         ensures value { IfOk result (λ m. m ≡ joined_with self.now locals.old.items first rest.now) }
         ensures kept { IfOk result (λ _. locals.new.items ≡ locals.old.items) }
     {
@@ -252,7 +263,11 @@ impl<'a> Turn<'a> {
 
     /// The member that the branches choose, or None where no branch does.
     #[cycle(value)]
-    fn chosen(&self, branches: &[Branch], locals: &mut Vec<Member>) -> Result<Option<Member>, Memory>
+    fn chosen(
+        &self,
+        branches: &[Branch],
+        locals: &mut Vec<Member>,
+    ) -> Result<Option<Member>, Memory>
         ensures value { IfOk result (λ r. (last : Member)
             → branches_with self.now locals.old.items last branches.now ≡ unwrap_or r last) }
         ensures kept { IfOk result (λ _. locals.new.items ≡ locals.old.items) }
