@@ -24,24 +24,17 @@ use Rattle.df_core.specs.declared.flat.Block.{Block}
 use Rattle.df_core.specs.declared.flat.Flat.{Flat}
 use Rattle.df_core.specs.declared.made.Made.{Made}
 use Rattle.df_core.specs.declared.made.Made.TheVariants.{Single, Many}
-use Rattle.df_core.specs.Terms.{Opened, layer_of, fold_rolled, map_same}
+use Rattle.df_core.specs.Terms.{map_same}
 use Rattle.df_core.specs.TermInduction.{Proved, without, term_induction}
 use Rattle.df_core.specs.Meaning as v
 use Rattle.df_core.specs.Meaning.{Here, term_value, value_at, members, last_grown, grown, begun, folded_more, or_undef, folded, before, made_by, with_block, given, givens, values_of, all_made, result_of, flat_mean}
 use Rattle.df_core.specs.Parts.{joined_by, branches_by, defined_by}
 use Rattle.df_core.specs.Turning.{Place, term_member, scalar_in, member_at_place, member_in, made_in, member_at, members_over, last_member, grown_over, joined_more, joined_last, folded_members, block_made, with_made, given_made, givens_made, members_of, result_in, flat_members}
 use Rattle.df_core.specs.MemberParts.{joined_with, branches_with, bound_with}
-use Rattle.df_core.specs.Within.{layer_loopless, has_no_loop, IsLoopless, AreLoopless}
+use Rattle.df_core.specs.Within.{has_no_loop, IsLoopless, AreLoopless}
+use Rattle.df_core.proofs.NoLoops.{both, loopless_rolled}
 use Rattle.df_core.proofs.Senses as s
 use Rattle.df_core.proofs.Given as g
-
-both : (a b : Bool) → a && b ≡ true → (a ≡ true) × (b ≡ true)
-both true b h = (refl, h)
-both false b h = absurd (cc)
-
-loopless_rolled : (x : Opened) → has_no_loop (roll-Term x) ≡ layer_loopless (layer_of Bool has_no_loop x)
-unfolding has_no_loop
-loopless_rolled x = fold_rolled Bool layer_loopless x
 
 -- ---- what stands around a term
 
