@@ -17,6 +17,9 @@ use df_values::values::{ErrorValue, Value};
 use sqlite_items::Items;
 use std::alloc::Global;
 
+/// How many turns a loop may make where the meaning of a program is told.
+pub const TURNS: u32 = 65_536;
+
 /// The meaning of a flat program under some inputs, where each loop may make so many turns: a list of values for each result, in
 /// order, of which a scalar's has one. A list ends before its first member that is nothing, so a result is whole where it has the
 /// length that it should have.
