@@ -60,3 +60,10 @@ same_report law cells inputs choices loaded ran n drained a b c d e few h =
     ∙ ap (λ s. record { cells = cells; inputs = inputs; state = s }) (whole_told law cells inputs choices (omega (arith, few, count))) in
     ap (λ r. reported r n drained) whole ∙ ap (λ k. reported (ran_whole cells inputs choices) k drained) count
     ∙ report_of cells inputs choices drained (subst (λ (r : Loaded). IsTrue drained ↔ (possible r.cells r.state ≡ 0)) whole h)
+
+-- The same where the choices taken are known to be those of the schedule, few enough to be counted.
+pub schedule_report : TellsShortRuns → (cells : List Cell) (inputs : List (List Value)) (choices taken : List ℕ) (loaded ran : Loaded) (n : ℕ) (drained : Bool)
+    → loaded.cells ≡ cells → loaded.inputs ≡ inputs → loaded.state ≡ start cells → taken ≡ choices → ran ≡ ran_from loaded taken → n ≡ events_from loaded.cells loaded.inputs loaded.state taken
+    → n ≤ 4294967295 → (IsTrue drained ↔ (possible ran.cells ran.state ≡ 0)) → reported ran n drained ≡ report cells inputs choices
+schedule_report law cells inputs choices taken loaded ran n drained a b c same d e few h =
+    same_report law cells inputs choices loaded ran n drained a b c (d ∙ ap (ran_from loaded) same) (e ∙ ap (events_from loaded.cells loaded.inputs loaded.state) same) few h

@@ -1,0 +1,84 @@
+-- Cells that realize a meaning for every number of firings are faithful to it, and good; and where a result is never
+-- whole, no run ends.
+use Rattle.std.proofs.Common.{◌≡◌, ℕ, zero, suc, ◌-◌, ◌<◌, List, [], ◌∷◌, get_or, length, None, refl, sym, ◌∙◌, subst}
+use Rattle.std.proofs.Common.{inl, inr, arith}
+use Rattle.std.specs.Prelude.{Contains}
+use Rattle.std.proofs.lemmas.List.{get_or_past}
+use Rattle.std.proofs.lemmas.Bool.{cases_lt}
+use Rattle.df_values.specs.declared.values.Value.{Value}
+use Rattle.df_cells.specs.declared.cells.Cell.{Cell}
+use Rattle.df_cells.specs.declared.kinds.Kind.TheVariants as kind
+use Rattle.df_cells.specs.Cells.{cell_at, outputs}
+use Rattle.df_cells.specs.WellFormed.{WellFormed}
+use Rattle.df_machine.specs.Runs.{after, events}
+use Rattle.df_machine.specs.Laws.{HasAllResults}
+use Rattle.df_labels.specs.Histories.{IsPrefix}
+use Rattle.df_histories.specs.Laws.{NeverClashes, ResultsHaveOutputs}
+use Rattle.df_members.specs.Members.{Member, sure}
+use Rattle.df_members.specs.Laws.{FollowsMembers}
+use Rattle.df_ends.specs.Good.{MemberOutcome}
+use Rattle.df_ends.specs.Laws.{EndsWhole, RealizingForAllIsFaithful, RealizingForAllIsGood, EndlessRunsGoOn}
+
+-- what holds at each OUT, and of nothing, holds of each result
+each_result : HasAllResults → ResultsHaveOutputs
+    → (cells : List Cell) (inputs : List (List Value)) (choices : List ℕ) (outcome : MemberOutcome) (P : List Value
+    → List Member → Type 0) → WellFormed cells
+    → outputs cells ≡ length outcome → P [] []
+    → ((c k m : ℕ) → (cell_at cells c).kind ≡ kind.Out k m
+    → P (get_or (after cells inputs choices).results (k - 1) []) (get_or outcome (k - 1) []))
+    → (j : ℕ) → P (get_or (after cells inputs choices).results j []) (get_or outcome j [])
+each_result all outs cells inputs choices outcome P w count nothing at j = elim (cases_lt j (outputs cells)) [
+  | inl within ↦
+      let out = outs cells w j within in
+      subst (λ i. P (get_or (after cells inputs choices).results i []) (get_or outcome i [])) out.4
+      (at out.0 out.1 out.2 out.3)
+  | inr past ↦
+      let size = all cells inputs choices w in
+      let none = get_or_past (after cells inputs choices).results j [] (omega arith) in
+      let other = get_or_past outcome j [] (omega arith) in
+      subst (λ l. P l (get_or outcome j [])) (sym none) (subst (P []) (sym other) nothing)
+]
+
+pub realizing_for_all_is_faithful : NeverClashes → FollowsMembers → HasAllResults → ResultsHaveOutputs
+    → RealizingForAllIsFaithful
+realizing_for_all_is_faithful never follows all outs cells meaning w realizes = record {
+  no_clash = λ inputs choices choice fits. never cells inputs choices choice w;
+  results = λ inputs choices n fits. all cells inputs choices w ∙ realizes.outputs inputs n fits;
+  prefixes = λ inputs choices n k fits few.
+      let t = realizes.tells inputs n fits in
+      each_result all outs cells inputs choices (meaning inputs n) (λ l m. IsPrefix (sure l) m) w
+      (realizes.outputs inputs n fits) ([], refl)
+      (λ c j m is. subst (IsPrefix (sure (get_or (after cells inputs choices).results (j - 1) []))) (t.whole c j m is)
+      ((follows cells inputs n t.labels choices w fits t.meet few).results c j m is)) k;
+}
+
+pub realizing_for_all_is_good : RealizingForAllIsFaithful → EndsWhole → HasAllResults → ResultsHaveOutputs
+    → RealizingForAllIsGood
+realizing_for_all_is_good faithful ends all outs cells meaning w realizes = record {
+  faithful = faithful cells meaning w realizes;
+  whole = λ inputs choices n k fits few none.
+      let t = realizes.tells inputs n fits in
+      each_result all outs cells inputs choices (meaning inputs n) (λ l m. sure l ≡ m) w
+      (realizes.outputs inputs n fits) refl
+      (λ c j m is. ((ends cells inputs n t.labels t.rank choices w fits t.meet t.ranked few none).1 c j m is).0
+      ∙ t.whole c j m is) k;
+  full = λ inputs choices c k m fits none is.
+      let n = suc (events cells inputs choices) in
+      let t = realizes.tells inputs n fits in
+      ((ends cells inputs n t.labels t.rank choices w fits t.meet t.ranked (omega arith) none).1 c k m is).1;
+}
+
+-- ---- results that are never whole
+
+sure_is : (values : List Value) (k : ℕ) → k < length (sure values) → get_or (sure values) k None ≡ None → ⊥
+sure_is [] k within e = omega arith
+sure_is (v ∷ values) zero within e = cc
+sure_is (v ∷ values) (suc k) within e = sure_is values k (omega arith) e
+
+pub endless_runs_go_on : EndlessRunsGoOn
+endless_runs_go_on cells meaning inputs k good fits never choices none =
+    let n = suc (events cells inputs choices) in
+    let result = get_or (after cells inputs choices).results k [] in
+    let e : sure result ≡ get_or (meaning inputs n) k [] = good.whole inputs choices n k fits (omega arith) none in
+    let there : Contains (sure result) None = subst (λ (l : List Member). Contains l None) (sym e) (never n) in
+    sure_is result there.0 there.1 there.2

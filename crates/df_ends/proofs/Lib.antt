@@ -1,0 +1,8 @@
+pub mod Counting
+pub mod Streams
+pub mod Order
+pub mod Lower
+pub mod Ends
+pub mod Good
+pub mod OfValues
+pub mod Realized

@@ -1,0 +1,4 @@
+pub mod Ranks
+pub mod OfValues
+pub mod Good
+pub mod Laws

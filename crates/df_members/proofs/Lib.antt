@@ -1,0 +1,4 @@
+pub mod Lifted
+pub mod Runs
+pub mod Taken
+pub mod Following

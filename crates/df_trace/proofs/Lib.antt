@@ -1,0 +1,5 @@
+pub mod Names
+pub mod Lines
+pub mod Choices
+pub mod Replays
+pub mod OneLine
