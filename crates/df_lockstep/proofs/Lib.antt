@@ -9,3 +9,4 @@ pub mod Drains
 pub mod Flights
 pub mod Locked
 pub mod Ends
+pub mod Told

@@ -5,7 +5,6 @@ ghost use Rattle.df_labels.specs.Labels.{Labels, LabelsMeet};
 ghost use Rattle.df_stages.specs.Balance.{IsBalanced};
 ghost use Rattle.df_machine.specs.Events.{enabled, possible};
 ghost use Rattle.df_machine.specs.Runs.{after};
-ghost use Rattle.df_machine.specs.States.{told};
 ghost use Rattle.df_histories.specs.Reached.{IsAfter};
 ghost use Rattle.df_rank.specs.Good.{HasLabelResults, HasWholeResults};
 ghost use Rattle.df_lockstep.specs.Phases.{after_phases, choices_of_phases, flight_choices, phase_choices};
@@ -92,7 +91,7 @@ pub struct LockEnd {
 pub fn lockstep(t: &mut Tracked, limit: u64) -> LockEnd
     requires begun { IsAfter t.old [] }
     requires limit { limit ≤ 1073741824 }
-    ensures state { t.new ≡ record t.old { state = told (after_phases t.old.cells t.old.inputs result.phases) } }
+    ensures state { t.new ≡ record t.old { state = after_phases t.old.cells t.old.inputs result.phases } }
     ensures reached { IsAfter t.new (choices_of_phases t.old.cells t.old.inputs result.phases) }
     ensures events { result.events ≡ length (choices_of_phases t.old.cells t.old.inputs result.phases) }
     // In each phase an event was possible: an empty one is not counted.

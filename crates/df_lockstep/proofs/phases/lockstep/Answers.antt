@@ -2,6 +2,7 @@ use Rattle.std.proofs.Common.{◌∙◌, ap, sym, inl, inr, arith}
 use Rattle.df_machine.specs.Seen.{Loaded}
 use Rattle.df_machine.specs.Events.{possible}
 use Rattle.df_lockstep.proofs.Locked.{locked_none, locked_one, locked_state, in_time}
+use Rattle.df_lockstep.proofs.Told.{phases_told}
 use Rattle.df_lockstep.proofs.phases.lockstep.Goals as goal
 use Rattle.df_lockstep.proofs.phases.lockstep.Goals.{then-loop-phases-test+else-possible-ne0, else-loop-phases-test}
 
@@ -20,7 +21,10 @@ loop-phases-preserved c =
     )
 
 pub returns-clause-state : goal.returns-clause-state
-returns-clause-state c = locked_state c.phases_are_runs.ensures c.args.t.now c.loop-phases.t c.loop-phases.phases c.loop-phases.events c.loop-phases.invariant.0
+returns-clause-state c =
+    let few = c.loop-phases.invariant.1 in let most = c.requires.limit in
+    locked_state c.phases_are_runs.ensures c.args.t.now c.loop-phases.t c.loop-phases.phases c.loop-phases.events c.loop-phases.invariant.0
+    ∙ ap (λ s. record c.args.t.now { state = s }) (phases_told c.args.t.now.cells c.args.t.now.inputs c.loop-phases.phases (omega (arith, few, most)))
 
 pub returns-clause-in_time : goal.returns-clause-in_time
 returns-clause-in_time c =
