@@ -13,7 +13,7 @@ use Rattle.df_machine.specs.Laws.{TellsShortRuns}
 other_than : (n : ℕ) → (suc n == 0) ≡ false
 other_than n = grind arith
 
-same_test : (b : Bool) (n : ℕ) → (IsTrue b ↔ (n ≡ 0)) → b ≡ (n == 0)
+pub same_test : (b : Bool) (n : ℕ) → (IsTrue b ↔ (n ≡ 0)) → b ≡ (n == 0)
 same_test true zero h = refl
 same_test true (suc n) h = absurd (let e = h.0 refl in omega arith)
 same_test false zero h = absurd (false≢true (h.1 refl))

@@ -3,7 +3,7 @@ use Rattle.std.specs.Prelude.{ℕ, List, [], ◌∷◌, ◌+◌, ◌==◌, lengt
 use Rattle.std.specs.List.{list_any, find}
 use Rattle.std.specs.Str.{bytes_eq}
 use Rattle.df_commands.specs.declared.command.Command.{Command}
-use Rattle.df_commands.specs.declared.command.Command.TheVariants.{Check, Eval, Compile, Go, Run, Verify, Migrate}
+use Rattle.df_commands.specs.declared.command.Command.TheVariants.{Check, Eval, Compile, Go, Run, Verify, Migrate, Lockstep}
 use Rattle.df_commands.specs.declared.command.Text.{Text}
 use Rattle.df_commands.specs.declared.command.Text.TheVariants.{Source, Input, Schedule, Cells, Dual}
 
@@ -36,6 +36,7 @@ word_of Go = codes "go"
 word_of Run = codes "run"
 word_of Verify = codes "verify"
 word_of Migrate = codes "migrate"
+word_of Lockstep = codes "lockstep"
 
 -- the texts that it reads, in the order in which their files are named
 abbrev pub texts_of : Command → List Text
@@ -46,6 +47,7 @@ texts_of Go = Source ∷ Input ∷ Schedule ∷ []
 texts_of Run = Cells ∷ Input ∷ Schedule ∷ []
 texts_of Verify = Cells ∷ Dual ∷ []
 texts_of Migrate = Cells ∷ []
+texts_of Lockstep = Cells ∷ Input ∷ []
 
 -- how many files it writes; they are named behind those that it reads
 abbrev pub written_by : Command → ℕ
@@ -55,7 +57,7 @@ written_by Migrate = 1
 written_by _ = 0
 
 abbrev pub commands : List Command
-commands = Check ∷ Eval ∷ Compile ∷ Go ∷ Run ∷ Verify ∷ Migrate ∷ []
+commands = Check ∷ Eval ∷ Compile ∷ Go ∷ Run ∷ Verify ∷ Migrate ∷ Lockstep ∷ []
 
 -- ---- the words
 

@@ -65,9 +65,11 @@ pub enum Command {
     Verify,
     /// Writes the cells of a file of version 1 as one of version 2.
     Migrate,
+    /// Runs the cells of a file in lock step.
+    Lockstep,
 }
 
-const COMMANDS: [Command; 7] = [
+const COMMANDS: [Command; 8] = [
     Command::Check,
     Command::Eval,
     Command::Compile,
@@ -75,6 +77,7 @@ const COMMANDS: [Command; 7] = [
     Command::Run,
     Command::Verify,
     Command::Migrate,
+    Command::Lockstep,
 ];
 
 impl Command {
@@ -90,6 +93,7 @@ impl Command {
             Command::Run => "run",
             Command::Verify => "verify",
             Command::Migrate => "migrate",
+            Command::Lockstep => "lockstep",
         }
     }
 
@@ -104,6 +108,7 @@ impl Command {
             Command::Run => &[Text::Cells, Text::Input, Text::Schedule],
             Command::Verify => &[Text::Cells, Text::Dual],
             Command::Migrate => &[Text::Cells],
+            Command::Lockstep => &[Text::Cells, Text::Input],
         }
     }
 
@@ -114,7 +119,7 @@ impl Command {
         match self {
             Command::Compile | Command::Go => 2,
             Command::Migrate => 1,
-            Command::Check | Command::Eval | Command::Run | Command::Verify => 0,
+            Command::Check | Command::Eval | Command::Run | Command::Verify | Command::Lockstep => 0,
         }
     }
 }

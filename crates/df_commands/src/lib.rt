@@ -13,6 +13,7 @@ mod compile;
 mod eval;
 mod go;
 pub mod laws;
+mod lockstep;
 mod migrate;
 pub mod plan;
 pub mod planned;
