@@ -12,3 +12,4 @@ pub mod ProgramReadings
 pub mod Compilations
 pub mod SourcesMeant
 pub mod Good
+pub mod PhasedReports

@@ -24,5 +24,8 @@ abbrev pub report_of_phases : List Cell → List (List Value) → ℕ → Report
 report_of_phases cells inputs phases = report_at cells (after_phases cells inputs phases) (length (choices_of_phases cells inputs phases))
 
 -- its text, and how many phases there were
+abbrev pub phases_line : ℕ → List ℕ
+phases_line phases = line (codes "phases " ++ decimal phases)
+
 abbrev pub phases_text : List Cell → List (List Value) → ℕ → List ℕ
-phases_text cells inputs phases = report_text (report_of_phases cells inputs phases) ++ line (codes "phases " ++ decimal phases)
+phases_text cells inputs phases = report_text (report_of_phases cells inputs phases) ++ phases_line phases

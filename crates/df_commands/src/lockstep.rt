@@ -1,9 +1,9 @@
 //! `lockstep`: the cells of a file are run in phases.
-ghost use Rattle.std.specs.Prelude.{◌≡◌, ◌≤◌, length, IfOk, IsErrOf};
+ghost use Rattle.std.specs.Prelude.{◌≡◌, ◌≤◌, ◌++◌, length, IfOk, OnOk, IsErrOf};
 ghost use Rattle.df_values.specs.Inputs.{AreValid};
 ghost use Rattle.df_cells.specs.Cells.{declarations};
 ghost use Rattle.df_cells.specs.WellFormed.{WellFormed};
-ghost use Rattle.df_commands.specs.Phased.{EndsAfter, report_of_phases, phases_text};
+ghost use Rattle.df_commands.specs.Phased.{EndsAfter, report_of_phases, phases_line, phases_text};
 ghost use Rattle.df_commands.specs.Verdicts.{RunInPhases, JudgesLockstep};
 ghost use Rattle.df_commands.specs.Judged.{Finds, Settles};
 
@@ -46,6 +46,16 @@ fn judged(alloc: Global, cells: &[u8], input: &[u8]) -> Result<CellsToRun, Stop>
     Ok(CellsToRun { cells, inputs })
 }
 
+// How many phases there were.
+fn push_phases(text: &mut Bytes, phases: u64) -> Result<(), Memory>
+    ensures { OnOk result (text.new ≡ text.old ++ phases_line phases) }
+{
+    text.push_text("phases ")?;
+    text.push_number(phases)?;
+    text.push_text("\n")?;
+    Ok(())
+}
+
 // The report of a run in phases, how many there were, and whether it ended where no event is possible.
 #[derive(Drop)]
 struct Phased {
@@ -72,9 +82,7 @@ fn run_cells(alloc: Global, cells: Cells, inputs: Streams) -> Result<Phased, Mem
             drained: end.drained,
         },
     )?;
-    text.push_text("phases ")?;
-    text.push_number(end.phases)?;
-    text.push_text("\n")?;
+    push_phases(&mut text, end.phases)?;
     Ok(Phased {
         text,
         phases: end.phases,
