@@ -1,5 +1,5 @@
 -- The report of a run in phases, from what the run gave.
-use Rattle.std.proofs.Common.{◌≡◌, ◌≢◌, ◌≤◌, ◌<◌, ◌⊎◌, ◌==◌, ℕ, Bool, true, false, List, length, IsTrue, ◌↔◌, refl, sym, ◌∙◌, ap, subst, inl, inr}
+use Rattle.std.proofs.Common.{◌≡◌, ◌≢◌, ◌≤◌, ◌<◌, ◌⊎◌, ℕ, Bool, true, false, List, length, IsTrue, ◌↔◌, refl, ◌∙◌, ap, subst, inl, inr}
 use Rattle.std.specs.Bool.{OnFalse}
 use Rattle.df_values.specs.declared.values.Value.{Value}
 use Rattle.df_cells.specs.declared.cells.Cell.{Cell}

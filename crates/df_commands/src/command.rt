@@ -119,7 +119,8 @@ impl Command {
         match self {
             Command::Compile | Command::Go => 2,
             Command::Migrate => 1,
-            Command::Check | Command::Eval | Command::Run | Command::Verify | Command::Lockstep => 0,
+            Command::Check | Command::Eval | Command::Run | Command::Verify | Command::Lockstep =>
+                0,
         }
     }
 }

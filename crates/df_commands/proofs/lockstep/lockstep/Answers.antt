@@ -14,6 +14,6 @@ returns-clause-settles c =
         ran.phases,
         c.in_ok-ran.ensures.ends,
         c.of_text.ensures ∙ ap (λ text. record { files = []; text = text; is_done = ran.is_drained }) c.in_ok-ran.ensures.text
-        ∙ ap (λ done. record { files = []; text = phases_text run.cells run.inputs.lists ran.phases; is_done = done }) c.in_ok-ran.ensures.drained,
+            ∙ ap (λ done. record { files = []; text = phases_text run.cells run.inputs.lists ran.phases; is_done = done }) c.in_ok-ran.ensures.drained,
       );
     }
