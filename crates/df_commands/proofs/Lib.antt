@@ -14,3 +14,4 @@ pub mod Compilations
 pub mod SourcesMeant
 pub mod Good
 pub mod Replays
+pub mod PhasedReports

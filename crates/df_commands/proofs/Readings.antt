@@ -16,10 +16,10 @@ use Rattle.df_commands.specs.Lines.{refusal}
 use Rattle.df_commands.specs.Inputs.{decls_by}
 use Rattle.df_commands.specs.Commands.{texts_of}
 use Rattle.df_commands.specs.declared.command.Command.{Command}
-use Rattle.df_commands.specs.declared.command.Command.TheVariants.{Check, Eval, Compile, Go, Run, Trace, Replay, Verify, Migrate}
+use Rattle.df_commands.specs.declared.command.Command.TheVariants.{Check, Eval, Compile, Go, Run, Trace, Replay, Verify, Migrate, Lockstep}
 use Rattle.df_commands.specs.ProgramTexts.{ReadsProgram, ReadsCompilable}
 use Rattle.df_commands.specs.Texts.{input_reason, and_word, ReadsInputText, ReadsScheduleText, ReadsCellFile, ReadsTraceFile, ReadsDualFile}
-use Rattle.df_commands.specs.Verdicts.{Verdict, Refused, Accepted, Task, TellRight, TellMeaning, CompileSource, CompileAndRun, RunCells, TellEvents, RunLines, TellLeast, WriteAnew, AfterText, AfterRead, Goes, JudgesInputs, JudgesGo, JudgesCells, JudgesReplay, JudgesVerify, JudgesEval, JudgesTexts, nth, texts_at}
+use Rattle.df_commands.specs.Verdicts.{Verdict, Refused, Accepted, Task, TellRight, TellMeaning, CompileSource, CompileAndRun, RunCells, TellEvents, RunLines, TellLeast, WriteAnew, RunInPhases, AfterText, AfterRead, Goes, JudgesInputs, JudgesGo, JudgesCells, JudgesReplay, JudgesVerify, JudgesEval, JudgesLockstep, JudgesTexts, nth, texts_at}
 use Rattle.df_syntax.specs.SourceMeaning.{source_inputs}
 use Rattle.df_syntax.specs.declared.program.Program.{Program as Tree}
 use Rattle.df_commands.proofs.OwnNames.{cells_names}
@@ -153,6 +153,19 @@ one_meaning one_input one_program new source input v w =
     (λ tree read. one_after_text (ReadsInputText (decls_by (source_inputs tree)) input) v w (meaning_told tree)
     (one_input_reading one_input (decls_by (source_inputs tree)) (own_names tree (new source tree read.0 read.1.sized)) input) (λ inputs given p q. p ∙ sym q))
 
+-- what is asked once the inputs of cells were read that run in phases, and once the cells were
+abbrev pub phases_asked : List Cell → Verdict → List (List Value) → Type 0
+phases_asked cells v inputs = v ≡ Accepted (RunInPhases cells inputs)
+
+abbrev pub input_asked : List ℕ → Verdict → List Cell → Type 0
+input_asked input v cells = AfterText (ReadsInputText (inputs_of cells) input) v (phases_asked cells v)
+
+one_of_phases : InputsHaveOneReading → CellFilesHaveOneReading → (cells input : List ℕ) (v w : Verdict) → JudgesLockstep cells input v → JudgesLockstep cells input w → v ≡ w
+one_of_phases one_input one_cells cells input v w =
+    one_after_text (ReadsCellFile Two cells) v w (input_asked input) (one_cells Two cells)
+    (λ list read. one_after_text (ReadsInputText (inputs_of list) input) v w (phases_asked list)
+    (one_input_reading one_input (inputs_of list) (cells_names list read.1) input) (λ inputs given p q. p ∙ sym q))
+
 -- what is asked once older cells were read
 abbrev anew_asked : List ℕ → Verdict → List Cell → Type 0
 anew_asked name v list = v ≡ Accepted (WriteAnew list name)
@@ -179,6 +192,7 @@ one_of_texts one_input one_schedule one_cells one_trace one_dual one_program one
 one_of_texts one_input one_schedule one_cells one_trace one_dual one_program one_compilation new Verify texts writes v w = one_pair one_cells one_dual (nth texts 0) (nth texts 1) v w
 one_of_texts one_input one_schedule one_cells one_trace one_dual one_program one_compilation new Migrate texts writes v w =
     one_after_text (ReadsCellFile One (nth texts 0)) v w (anew_asked (nth writes 0)) (one_cells One (nth texts 0)) (λ list read p q. p ∙ sym q)
+one_of_texts one_input one_schedule one_cells one_trace one_dual one_program one_compilation new Lockstep texts writes v w = one_of_phases one_input one_cells (nth texts 0) (nth texts 1) v w
 
 pub one_verdict : InputsHaveOneReading → SchedulesHaveOneReading → CellFilesHaveOneReading → TraceFilesHaveOneReading → DualFilesHaveOneReading → ProgramsHaveOneReading → CompilationsHaveOneReading → AcceptedSourcesBindNewNames → HasOneVerdict
 one_verdict one_input one_schedule one_cells one_trace one_dual one_program one_compilation new order holds v w =
@@ -260,6 +274,10 @@ some_of_texts some_input some_schedule some_cells some_trace some_dual some_prog
     (λ list read. some_after_text (ReadsDualFile list (nth texts 1)) (told_of list) (some_dual list (nth texts 1) read.1) (λ flow certified none. none (Accepted (TellLeast list)) refl))
 some_of_texts some_input some_schedule some_cells some_trace some_dual some_program some_compilation Migrate texts writes =
     some_after_text (ReadsCellFile One (nth texts 0)) (anew_asked (nth writes 0)) (some_cells One (nth texts 0)) (λ list read none. none (Accepted (WriteAnew list (nth writes 0))) refl)
+some_of_texts some_input some_schedule some_cells some_trace some_dual some_program some_compilation Lockstep texts writes =
+    some_after_text (ReadsCellFile Two (nth texts 0)) (input_asked (nth texts 1)) (some_cells Two (nth texts 0))
+    (λ list read. some_after_text (ReadsInputText (inputs_of list) (nth texts 1)) (phases_asked list) (some_input_reading some_input (inputs_of list) (nth texts 1))
+    (λ inputs given none. none (Accepted (RunInPhases list inputs)) refl))
 
 pub some_verdict : InputsHaveReadings → SchedulesHaveReadings → CellFilesHaveReadings → TraceFilesHaveReadings → DualFilesHaveReadings → ProgramsHaveReadings → CompilationsHaveReadings → HasSomeVerdict
 some_verdict some_input some_schedule some_cells some_trace some_dual some_program some_compilation order holds =

@@ -13,13 +13,13 @@ use Rattle.df_machine.specs.Laws.{TellsShortRuns}
 other_than : (n : ℕ) → (suc n == 0) ≡ false
 other_than n = grind arith
 
-same_test : (b : Bool) (n : ℕ) → (IsTrue b ↔ (n ≡ 0)) → b ≡ (n == 0)
+pub same_test : (b : Bool) (n : ℕ) → (IsTrue b ↔ (n ≡ 0)) → b ≡ (n == 0)
 same_test true zero h = refl
 same_test true (suc n) h = absurd (let e = h.0 refl in omega arith)
 same_test false zero h = absurd (false≢true (h.1 refl))
 same_test false (suc n) h = sym (other_than n)
 
-abbrev loaded_with : List Cell → List (List Value) → Loaded
+abbrev pub loaded_with : List Cell → List (List Value) → Loaded
 loaded_with cells inputs = record { cells = cells; inputs = inputs; state = start cells }
 
 same_loaded : (cells : List Cell) (inputs : List (List Value)) (loaded : Loaded) → loaded.cells ≡ cells → loaded.inputs ≡ inputs → loaded.state ≡ start cells → loaded ≡ loaded_with cells inputs

@@ -3,7 +3,7 @@ use Rattle.std.specs.Prelude.{ℕ, List, [], ◌∷◌, ◌+◌, ◌==◌, lengt
 use Rattle.std.specs.List.{list_any, find}
 use Rattle.std.specs.Str.{bytes_eq}
 use Rattle.df_commands.specs.declared.command.Command.{Command}
-use Rattle.df_commands.specs.declared.command.Command.TheVariants.{Check, Eval, Compile, Go, Run, Trace, Replay, Verify, Migrate}
+use Rattle.df_commands.specs.declared.command.Command.TheVariants.{Check, Eval, Compile, Go, Run, Trace, Replay, Verify, Migrate, Lockstep}
 use Rattle.df_commands.specs.declared.command.Text.{Text}
 use Rattle.df_commands.specs.declared.command.Text.TheVariants.{Source, Input, Schedule, Cells, Dual}
 use Rattle.df_commands.specs.declared.command.Text.TheVariants as text
@@ -41,6 +41,7 @@ word_of Trace = codes "trace"
 word_of Replay = codes "replay"
 word_of Verify = codes "verify"
 word_of Migrate = codes "migrate"
+word_of Lockstep = codes "lockstep"
 
 -- the texts that it reads, in the order in which their files are named
 abbrev pub texts_of : Command → List Text
@@ -53,6 +54,7 @@ texts_of Trace = Cells ∷ Input ∷ Schedule ∷ []
 texts_of Replay = Cells ∷ Input ∷ text.Trace ∷ []
 texts_of Verify = Cells ∷ Dual ∷ []
 texts_of Migrate = Cells ∷ []
+texts_of Lockstep = Cells ∷ Input ∷ []
 
 -- how many files it writes; they are named behind those that it reads
 abbrev pub written_by : Command → ℕ
@@ -62,7 +64,7 @@ written_by Migrate = 1
 written_by _ = 0
 
 abbrev pub commands : List Command
-commands = Check ∷ Eval ∷ Compile ∷ Go ∷ Run ∷ Trace ∷ Replay ∷ Verify ∷ Migrate ∷ []
+commands = Check ∷ Eval ∷ Compile ∷ Go ∷ Run ∷ Trace ∷ Replay ∷ Verify ∷ Migrate ∷ Lockstep ∷ []
 
 -- ---- the words
 

@@ -27,9 +27,10 @@ use Rattle.df_buffers_laws.specs.Staged.{HasLowestStage}
 use Rattle.df_commands.specs.Effects.{Effect}
 use Rattle.df_commands.specs.Inputs.{decls_by}
 use Rattle.df_commands.specs.Lines.{line}
+use Rattle.df_commands.specs.Phased.{EndsAfter, report_of_phases, phases_text}
 use Rattle.df_commands.specs.ProgramTexts.{flat_of}
 use Rattle.df_commands.specs.Reports.{report_text, counts_text, least_text, migrated_text}
-use Rattle.df_commands.specs.Verdicts.{Task, TellRight, TellMeaning, CompileSource, CompileAndRun, RunCells, TellEvents, RunLines, TellLeast, WriteAnew}
+use Rattle.df_commands.specs.Verdicts.{Task, TellRight, TellMeaning, CompileSource, CompileAndRun, RunCells, TellEvents, RunLines, TellLeast, WriteAnew, RunInPhases}
 
 -- ---- what is promised
 
@@ -113,3 +114,11 @@ MayDo (TellLeast cells) effect =
     IsBalanced cells × IsLeast cells × (effect ≡ record { files = []; text = least_text cells; is_done = true })
 MayDo (WriteAnew cells name) effect =
     effect ≡ record { files = (name, cell_text cells) ∷ []; text = migrated_text cells; is_done = true }
+-- the phases of the run are as many as it takes until no event is possible, within the limit
+MayDo (RunInPhases cells inputs) effect =
+    (phases : ℕ) × EndsAfter cells inputs phases
+    × (effect ≡ record {
+      files = [];
+      text = phases_text cells inputs phases;
+      is_done = (report_of_phases cells inputs phases).drained;
+    })

@@ -6,6 +6,7 @@ pub mod Reports
 pub mod ProgramTexts
 pub mod Texts
 pub mod Verdicts
+pub mod Phased
 pub mod Compiled
 pub mod TracedRuns
 pub mod Plans

@@ -11,7 +11,7 @@ use Rattle.df_celltext.specs.declared.version.Version.TheVariants.{One, Two}
 use Rattle.df_syntax.specs.declared.program.Program.{Program as Tree}
 use Rattle.df_syntax.specs.SourceMeaning.{source_inputs}
 use Rattle.df_commands.specs.declared.command.Command.{Command}
-use Rattle.df_commands.specs.declared.command.Command.TheVariants.{Check, Eval, Compile, Go, Run, Trace, Replay, Verify, Migrate}
+use Rattle.df_commands.specs.declared.command.Command.TheVariants.{Check, Eval, Compile, Go, Run, Trace, Replay, Verify, Migrate, Lockstep}
 use Rattle.df_commands.specs.declared.command.Text.{Text}
 use Rattle.df_commands.specs.Commands.{Order, texts_of, label_of, limit_of}
 use Rattle.df_commands.specs.Inputs.{decls_by}
@@ -21,8 +21,9 @@ use Rattle.df_commands.specs.Texts.{ReadsInputText, ReadsScheduleText, ReadsCell
 
 -- What the texts of a command ask for, once none of them is refused: that a source is told to be right, that its
 -- meaning is told under some inputs, that it is compiled and its cells are written, that its cells are run as well,
--- that cells are run, that the events of their run are told, that they are run by lines of events, that it is told of cells that their buffers are balanced and least, or that cells of an older
--- form are written anew.
+-- that cells are run, that the events of their run are told, that they are run by lines of events, that it is told of
+-- cells that their buffers are balanced and least, that cells of an older form are written anew, or that cells are run
+-- in phases.
 pub data Task : Type 0 where
   TellRight : Task
   TellMeaning : (tree : Tree) (inputs : List (List Value)) → Task
@@ -33,6 +34,7 @@ pub data Task : Type 0 where
   RunLines : (cells : List Cell) (inputs : List (List Value)) (lines : List (List ℕ)) → Task
   TellLeast : (cells : List Cell) → Task
   WriteAnew : (cells : List Cell) (name : List ℕ) → Task
+  RunInPhases : (cells : List Cell) (inputs : List (List Value)) → Task
 
 -- A file to be read isn't there, a text is refused by this line, or the task is to be done.
 pub data Verdict : Type 0 where
@@ -133,6 +135,12 @@ JudgesVerify cells dual v =
 abbrev pub JudgesMigrate : (old : List ℕ) → (cells : List ℕ) → Verdict → Type 0
 JudgesMigrate old cells v = AfterText (ReadsCellFile One old) v (λ list. v ≡ Accepted (WriteAnew list cells))
 
+abbrev pub JudgesLockstep : (cells input : List ℕ) → Verdict → Type 0
+JudgesLockstep cells input v =
+    AfterText (ReadsCellFile Two cells) v (λ list.
+    AfterText (ReadsInputText (inputs_of list) input) v (λ inputs.
+    v ≡ Accepted (RunInPhases list inputs)))
+
 -- the text, or the name, of this number
 abbrev pub nth : List (List ℕ) → ℕ → List ℕ
 nth list k = get_or list k []
@@ -148,6 +156,7 @@ JudgesTexts Trace texts writes v = JudgesTrace (nth texts 0) (nth texts 1) (nth 
 JudgesTexts Replay texts writes v = JudgesReplay (nth texts 0) (nth texts 1) (nth texts 2) v
 JudgesTexts Verify texts writes v = JudgesVerify (nth texts 0) (nth texts 1) v
 JudgesTexts Migrate texts writes v = JudgesMigrate (nth texts 0) (nth writes 0) v
+JudgesTexts Lockstep texts writes v = JudgesLockstep (nth texts 0) (nth texts 1) v
 
 abbrev pub Judges : Order → Holds → Verdict → Type 0
 Judges order holds v = AfterRead (texts_at holds order.reads (texts_of order.command)) v (λ texts. JudgesTexts order.command texts order.writes v)

@@ -73,9 +73,11 @@ pub enum Command {
     Verify,
     /// Writes the cells of a file of version 1 as one of version 2.
     Migrate,
+    /// Runs the cells of a file in lock step.
+    Lockstep,
 }
 
-const COMMANDS: [Command; 9] = [
+const COMMANDS: [Command; 10] = [
     Command::Check,
     Command::Eval,
     Command::Compile,
@@ -85,6 +87,7 @@ const COMMANDS: [Command; 9] = [
     Command::Replay,
     Command::Verify,
     Command::Migrate,
+    Command::Lockstep,
 ];
 
 impl Command {
@@ -102,6 +105,7 @@ impl Command {
             Command::Replay => "replay",
             Command::Verify => "verify",
             Command::Migrate => "migrate",
+            Command::Lockstep => "lockstep",
         }
     }
 
@@ -117,6 +121,7 @@ impl Command {
             Command::Replay => &[Text::Cells, Text::Input, Text::Trace],
             Command::Verify => &[Text::Cells, Text::Dual],
             Command::Migrate => &[Text::Cells],
+            Command::Lockstep => &[Text::Cells, Text::Input],
         }
     }
 
@@ -132,7 +137,8 @@ impl Command {
             | Command::Run
             | Command::Trace
             | Command::Replay
-            | Command::Verify => 0,
+            | Command::Verify
+            | Command::Lockstep => 0,
         }
     }
 }

@@ -14,6 +14,7 @@ pub mod ending;
 mod eval;
 mod go;
 pub mod laws;
+mod lockstep;
 mod migrate;
 pub mod plan;
 pub mod planned;

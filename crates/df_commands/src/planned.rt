@@ -12,6 +12,7 @@ use crate::command::{Command, Order};
 use crate::compile::compile;
 use crate::eval::eval;
 use crate::go::go;
+use crate::lockstep::lockstep;
 use crate::migrate::migrate;
 use crate::plan::Plan;
 use crate::reads::texts_of;
@@ -69,6 +70,7 @@ fn plan_of<'a>(
         ),
         Command::Verify => verify(alloc, texts[0].as_slice(), texts[1].as_slice()),
         Command::Migrate => migrate(alloc, texts[0].as_slice(), &writes[0]),
+        Command::Lockstep => lockstep(alloc, texts[0].as_slice(), texts[1].as_slice()),
     }
 }
 
