@@ -67,3 +67,8 @@ pub schedule_report : TellsShortRuns → (cells : List Cell) (inputs : List (Lis
     → n ≤ 4294967295 → (IsTrue drained ↔ (possible ran.cells ran.state ≡ 0)) → reported ran n drained ≡ report cells inputs choices
 schedule_report law cells inputs choices taken loaded ran n drained a b c same d e few h =
     same_report law cells inputs choices loaded ran n drained a b c (d ∙ ap (ran_from loaded) same) (e ∙ ap (events_from loaded.cells loaded.inputs loaded.state) same) few h
+
+-- whether a run is drained
+pub drained_is : (cells : List Cell) (inputs : List (List Value)) (choices : List ℕ) → (possible cells (after cells inputs choices) == 0) ≡ (report cells inputs choices).drained
+unfolding report
+drained_is cells inputs choices = refl

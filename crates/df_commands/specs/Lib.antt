@@ -7,7 +7,9 @@ pub mod ProgramTexts
 pub mod Texts
 pub mod Verdicts
 pub mod Compiled
+pub mod TracedRuns
 pub mod Plans
 pub mod Judged
+pub mod Replayed
 pub mod Ready
 pub mod Laws

@@ -24,7 +24,7 @@ some_same : (x y : List ℕ) → Some x ≡ Some y → x ≡ y
 some_same x y is = cc
 
 -- an event with a line
-with_line : (found : Option Event) (line : List ℕ) → option_map line_of found ≡ Some line → (e : Event) × (found ≡ Some e) × (line ≡ line_of e)
+pub with_line : (found : Option Event) (line : List ℕ) → option_map line_of found ≡ Some line → (e : Event) × (found ≡ Some e) × (line ≡ line_of e)
 with_line None line is = cc
 with_line (Some e) line is = (e, refl, some_same line (line_of e) (sym is))
 

@@ -3,3 +3,5 @@ pub mod Lines
 pub mod Choices
 pub mod Replays
 pub mod OneLine
+pub mod Traced
+pub mod Readings

@@ -6,6 +6,7 @@ use Rattle.df_cells.specs.declared.cells.Cell.{Cell}
 use Rattle.df_machine.specs.declared.packets.Event.{Event}
 use Rattle.df_machine.specs.declared.runs.RunEnd.{RunEnd}
 use Rattle.df_machine.specs.Events.{possible, chosen, chosen_event}
+use Rattle.df_machine.specs.Runs.{after}
 use Rattle.df_machine.specs.Seen.{Loaded}
 use Rattle.df_machine.specs.States.{State, start}
 use Rattle.df_histories.specs.Reached.{IsAfter}
@@ -45,6 +46,19 @@ HaveLines cells inputs s _ _ = ⊥
 -- no possible event has the line
 abbrev pub IsNoLine : List Cell → State → List ℕ → Type 0
 IsNoLine cells s line = (k : ℕ) → option_map line_of (chosen_event cells s k) ≢ Some line
+
+-- all lines are those of possible events at their turns, from the start on
+pub record AreLines (cells : List Cell) (inputs : List (List Value)) (lines : List (List ℕ)) : Type 0 where
+  pub choices : List ℕ
+  pub have : HaveLines cells inputs (start cells) choices lines
+
+-- the lines before this one are, and it is the line of no possible event then
+pub record IsWrongAt (cells : List Cell) (inputs : List (List Value)) (lines : List (List ℕ)) (number : ℕ) : Type 0 where
+  pub some : 1 ≤ number
+  pub within : number ≤ length lines
+  pub choices : List ℕ
+  pub have : HaveLines cells inputs (start cells) choices (take (number - 1) lines)
+  pub wrong : IsNoLine cells (after cells inputs choices) (get_or lines (number - 1) [])
 
 -- the machine did the events with these lines, and no others
 pub record HasDone (t : Loaded) (lines : List (List ℕ)) : Type 0 where

@@ -7,3 +7,4 @@ pub mod laws;
 pub mod line;
 mod naming;
 pub mod replay;
+pub mod trace;

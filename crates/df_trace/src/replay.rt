@@ -22,6 +22,17 @@ pub enum ReplayAnswer {
     BadTrace(u32),
 }
 
+impl ReplayAnswer {
+    /// The number of the line.
+    pub fn line(self) -> u32
+        ensures { self ≡ ReplayAnswer.BadTrace result }
+    {
+        match self {
+            ReplayAnswer::BadTrace(line) => line,
+        }
+    }
+}
+
 // How many bytes stand before the first line feed; all of them where there is none.
 fn line_length(text: &[u8]) -> usize
     ensures length { result ≡ position_or_len (λ b. b == 10) text.now }
@@ -86,6 +97,7 @@ pub fn replay(t: &mut Tracked, text: &[u8]) -> Result<RunEnd, ReplayAnswer>
     requires short { length text.now ≤ 4294967295 }
     ensures done { IfOk result (ReplaysAll t.new (lines_of text.now)) }
     ensures wrong { IfErr result (Refuses t.new (lines_of text.now)) }
+    ensures few { IfOk result (λ end. end.events ≤ 4294967295) }
     ensures same { (t.new.cells ≡ t.old.cells) × (t.new.inputs ≡ t.old.inputs) }
 {
     let mut rest = text;

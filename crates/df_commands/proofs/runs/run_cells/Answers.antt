@@ -1,9 +1,6 @@
-use Rattle.std.proofs.Common.{◌≡◌, ◌≤◌, ◌∙◌, ap, length, subst, sym, arith}
+use Rattle.std.proofs.Common.{◌≤◌, ◌∙◌, ap, length, subst, sym, arith}
 use Rattle.df_machine.specs.Reports.{Report}
-use Rattle.df_machine.specs.Runs.{run, events_from}
-use Rattle.df_machine.specs.States.{told}
 use Rattle.df_cells.specs.Schedules.{choices_of}
-use Rattle.df_commands.specs.Compiled.{run_of}
 use Rattle.df_commands.specs.Reports.{report_text}
 use Rattle.df_commands.proofs.RunReports.{schedule_report}
 use Rattle.df_commands.proofs.runs.run_cells.Goals as goal
