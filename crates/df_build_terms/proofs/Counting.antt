@@ -230,6 +230,7 @@ module _ (gates : GatesCountTheSame) (windows : WindowsCountTheSame) (loops : Lo
     form_follows (Term-F.Let ds value) locals s =
         let d = defined (map one (terms ds)) locals s in
         ap (λ (d : Defined). two value.0 d.locals d.state) (defined_follows ds locals s) ∙ value.1 d.locals d.state
+    form_follows (Term-F.Loop first more test next last) locals s = refl
 
     built_follows : (e : Term) → Follows f (one e) (two e)
     unfolding built

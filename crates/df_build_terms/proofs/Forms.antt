@@ -8,6 +8,8 @@ use Rattle.df_build_terms.specs.declared.building.Outside.{Outside}
 use Rattle.df_build_terms.specs.declared.building.Local.{Local}
 use Rattle.df_build_terms.specs.declared.building.Turns.{Turns}
 use Rattle.df_values.specs.declared.kinds.Unary.{Unary}
+use Rattle.df_build_loops.specs.Frames.{undef}
+use Rattle.df_core.specs.declared.terms.Assignment.{Assignment}
 use Rattle.df_core.specs.declared.terms.Branch.{Branch}
 use Rattle.df_core.specs.declared.terms.Step.{Step}
 use Rattle.df_core.specs.declared.terms.Term.{Term, roll-Term}
@@ -88,4 +90,9 @@ module _ (keep : Node → Node) (turns : Turns) (outer : List Outside) where
   let_is e ds value locals b is =
       rolled_is e (Term-F.Let ds value) locals b (is ∙ sym (t.rolls-Let ds value)) ∙ ap (λ (d : Defined). make value d.locals d.state) (defined_map make ds locals b)
 
-pub ruleset forms = (constant, local, index, previous, outside, element, change)
+  pub loop_is : (e first : Term) (more : List Term) (test : Term) (next : List Assignment) (last : Term) (locals : List Local) (b : Building) → e ≡ t.Loop first more test next last
+      → make e locals b ≡ at b (Constant undef)
+  loop_is e first more test next last locals b is =
+      rolled_is e (Term-F.Loop first more test next last) locals b (is ∙ sym (t.rolls-Loop first more test next last))
+
+pub ruleset forms = (constant, local, index, previous, outside, element, change, loop_is)

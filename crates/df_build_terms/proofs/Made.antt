@@ -194,6 +194,7 @@ module _ (Q : Graph → Type 0) (turns : Turns) (outer : List Outside) (stays : 
   form_kept (Term-F.If bs last) locals s q = branches_kept bs last locals s q
   form_kept (Term-F.Let ds value) locals s q =
       let d = defined (terms ds) locals s in value.1 d.locals d.state (defined_kept ds locals s q)
+  form_kept (Term-F.Loop first more test next last) locals s q = q
 
   pub built_kept : (e : Term) → KeepsGraph Q (one e)
   unfolding built

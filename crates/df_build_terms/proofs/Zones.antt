@@ -439,6 +439,7 @@ module _ (gates : GatesStayInZone) (windows : WindowsStayInZone) (loops : LoopsS
         let d = defined (terms ds) locals s in
         let g = defined_in ds locals s s zones zones (gates.kept_refl s.graph zones) ls os w in
         after s d.state zones g.more _ g.kept (value.1 d.locals d.state g.more g.locals (outside_more s.graph d.state.graph zones g.more g.kept turns outer os) g.sound)
+    form_in (Term-F.Loop first more test next last) locals s zones ls os w = still s zones (Constant undef) w tt
 
     built_in : (e : Term) → P e
     unfolding built

@@ -6,6 +6,7 @@ use Rattle.df_labels.specs.declared.graphs.Flow.TheVariants.{Constant}
 use Rattle.df_core.specs.Terms.{Layer, fold_term}
 use Rattle.df_core.specs.declared.terms.Term.{Term}
 use Rattle.df_core.specs.declared.terms.Term.TheOpen.{Term-F}
+use Rattle.df_build_loops.specs.Frames.{undef}
 use Rattle.df_build_terms.specs.Building.{Building, Built, Make, at, joined, changed, decide, from_local, index_built, previous_built, outer_built, element_built}
 use Rattle.df_build_terms.specs.declared.building.Local.{Local}
 use Rattle.df_build_terms.specs.declared.building.Outside.{Outside}
@@ -51,6 +52,8 @@ module _ (keep : Node → Node) where
     form (Term-F.Change how of) locals b = let x = of locals b in changed keep how x.state x.flow
     form (Term-F.If branches last) locals b = choose branches last locals b
     form (Term-F.Let ds value) locals b = let d = defined ds locals b in value d.locals d.state
+    -- a program that keeps the bounds has no loops
+    form (Term-F.Loop first more test next last) locals b = at b (Constant undef)
 
     unfoldable pub built : Term → Make
     built = fold_term Make form

@@ -63,6 +63,8 @@ impl<G: Graphs> Elem<G> {
                 locals.truncate(before);
                 Ok(value)
             }
+            // A program that keeps the bounds has no loops.
+            Term::Loop { .. } => Ok(UNDEF),
         }
     }
 

@@ -5,6 +5,7 @@ use df_cells::cells::Cells;
 use df_celltext::reader::read_cells;
 use df_dual_check::dual_text::write_dual;
 use df_io::{MemFiles, MemSink};
+use df_paths::paths::Paths;
 use df_stages::building::skeleton;
 use df_stages::skeleton::{Skeleton, SkeletonArc};
 use df_top::{Status, valflow};
@@ -214,25 +215,40 @@ fn verified(alloc: Global, cells: Bytes, dual: Bytes) -> Result<(Status, Vec<u8>
     Ok((status, out.contents().to_vec(alloc)?))
 }
 
+// How many BUF cells a balancer asks for, once the checker has certified the graph with them as least.
+fn certified<B: Balancer>(alloc: Global, balancer: &B, mut graph: Graph) -> Result<i64, Fail> {
+    let count = graph.kinds.len() as u64;
+    let s = skeleton_of_text(alloc, graph.text(alloc, &[])?.as_slice())?;
+    let balance = balancer.balance(alloc, &s)?;
+    let sum = all_excess(s.arcs(), balance.stages.as_slice()).ok_or("too close")?;
+    let dual = write_dual(alloc, &s, &balance.flow)?;
+    let stages = with_buffers(alloc, &mut graph, &s, &balance)?;
+    let (status, told) = verified(alloc, graph.text(alloc, stages.as_slice())?, dual)?;
+    let mut wanted = Bytes::new(alloc);
+    wanted.push_text("verified\nskeleton ")?;
+    wanted.push_number(count)?;
+    wanted.push_text("\nbuffers ")?;
+    wanted.push_signed(i128::from(sum))?;
+    wanted.push_text("\n")?;
+    if status == Status::Done && told.as_slice() == wanted.as_slice() {
+        Ok(sum)
+    } else {
+        Err("not certified")?
+    }
+}
+
 #[test]
 fn generated_graphs_get_least_buffers(rt: HostRuntime) -> Result<(), Fail> {
     let alloc = rt.alloc();
     let mut seed = 1979u32;
     for at in 0..12u32 {
-        let mut graph = generated(alloc, &mut seed)?;
+        let mut again = seed;
+        let graph = generated(alloc, &mut again)?;
         let s = skeleton_of_text(alloc, graph.text(alloc, &[])?.as_slice())?;
-        let balance = Cancel.balance(alloc, &s)?;
-        let sum = all_excess(s.arcs(), balance.stages.as_slice());
-        assert_eq!(rt; sum, least_sum(s.arcs()), "at {at}");
-        let dual = write_dual(alloc, &s, &balance.flow)?;
-        let stages = with_buffers(alloc, &mut graph, &s, &balance)?;
-        let (status, told) = verified(alloc, graph.text(alloc, stages.as_slice())?, dual)?;
-        let mut wanted = Bytes::new(alloc);
-        wanted.push_text("verified\nskeleton 5\nbuffers ")?;
-        wanted.push_signed(i128::from(sum.unwrap_or(0)))?;
-        wanted.push_text("\n")?;
-        assert_eq!(rt; told.as_slice(), wanted.as_slice(), "at {at}");
-        assert_eq!(rt; status, Status::Done, "at {at}");
+        let least = least_sum(s.arcs());
+        assert_eq!(rt; Some(certified(alloc, &Cancel, graph)?), least, "at {at}");
+        let graph = generated(alloc, &mut seed)?;
+        assert_eq!(rt; Some(certified(alloc, &Paths, graph)?), least, "at {at}");
     }
     Ok(())
 }
@@ -281,30 +297,36 @@ fn loops_and_windows_get_least_buffers(rt: HostRuntime) -> Result<(), Fail> {
     let s = skeleton_of_text(alloc, graph.text(alloc, &[])?.as_slice())?;
     let balance = Cancel.balance(alloc, &s)?;
     assert_eq!(rt; all_excess(s.arcs(), balance.stages.as_slice()), Some(2007));
+    let balance = Paths.balance(alloc, &s)?;
+    assert_eq!(rt; all_excess(s.arcs(), balance.stages.as_slice()), Some(2007));
     Ok(())
 }
 
-#[test]
-fn a_hundred_nodes_are_balanced(rt: HostRuntime) -> Result<(), Fail> {
-    let alloc = rt.alloc();
-    let mut seed = 75u32;
+// Sums of so many earlier values, one of them near.
+fn sums(alloc: Global, seed: &mut u32, count: u32) -> Result<Graph, Memory> {
     let mut graph = Graph::new(alloc);
     graph.push(alloc, "CTL 2*5", &[])?;
-    for c in 1..100u32 {
+    for c in 1..count {
         let near = c.min(8);
-        let first = Some(c.saturating_sub(1).saturating_sub(below(&mut seed, near)));
-        let second = Some(below(&mut seed, c));
+        let first = Some(c.saturating_sub(1).saturating_sub(below(seed, near)));
+        let second = Some(below(seed, c));
         graph.push(alloc, "ADD", &[first, second])?;
     }
-    let s = skeleton_of_text(alloc, graph.text(alloc, &[])?.as_slice())?;
-    let balance = Cancel.balance(alloc, &s)?;
-    let mut value = 0i64;
-    for (arc, flow) in s.arcs().iter().zip(balance.flow.as_slice().iter()) {
-        value = value.wrapping_add(arc.weight.wrapping_mul(i64::from(*flow).wrapping_sub(1)));
+    Ok(graph)
+}
+
+#[test]
+fn both_balancers_ask_for_as_many_buffers(rt: HostRuntime) -> Result<(), Fail> {
+    let alloc = rt.alloc();
+    let mut seed = 75u32;
+    for count in [2u32, 20, 60, 100] {
+        let mut again = seed;
+        let asked = certified(alloc, &Cancel, sums(alloc, &mut again, count)?)?;
+        assert_eq!(rt;
+            certified(alloc, &Paths, sums(alloc, &mut seed, count)?)?,
+            asked,
+            "{count}"
+        );
     }
-    assert_eq!(rt;
-        all_excess(s.arcs(), balance.stages.as_slice()),
-        Some(value)
-    );
     Ok(())
 }

@@ -7,8 +7,11 @@ pub mod RunReports
 pub mod ReadyTasks
 pub mod CellReadings
 pub mod DualReadings
+pub mod TraceReadings
 pub mod Buffers
 pub mod ProgramReadings
 pub mod Compilations
 pub mod SourcesMeant
 pub mod Good
+pub mod Replays
+pub mod PhasedReports

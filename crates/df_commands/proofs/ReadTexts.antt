@@ -11,7 +11,7 @@ use Rattle.df_commands.specs.Judged.{GivesRead}
 use Rattle.df_commands.specs.declared.stop.Stop.{Stop}
 use Rattle.df_commands.specs.declared.stop.Stop.TheVariants as stop
 use Rattle.df_commands.specs.declared.command.Text.{Text}
-use Rattle.df_commands.specs.declared.command.Text.TheVariants.{Source, Input, Schedule, Cells, Dual}
+use Rattle.df_commands.specs.declared.command.Text.TheVariants.{Source, Input, Schedule, Cells, Dual, Trace}
 
 -- what is given of all, where these were read and the rest gives this
 abbrev pub before : List (List ℕ) → Result (List (List ℕ)) Verdict → Result (List (List ℕ)) Verdict
@@ -60,22 +60,23 @@ module _ (holds : Holds) (files : List (String Global)) (kinds : List Text) (k :
   stops_reading meant all texts stop.Memory given = tt
 
 -- no text has a higher limit
-limits : (of : Text) → limit_of of ≤ 33_554_432
+limits : (of : Text) → limit_of of ≤ 67_108_864
 limits Source = omega arith
 limits Input = omega arith
 limits Schedule = omega arith
 limits Cells = omega arith
 limits Dual = omega arith
+limits Trace = omega arith
 
 pub one_longer : (texts more : List (List ℕ)) (text : List ℕ) (k : ℕ) → more ≡ texts ++ text ∷ [] → length texts ≡ k → length more ≡ k + 1
 one_longer texts more text k added count = ap length added ∙ (length-append texts (text ∷ []) ∙ ap (λ n. n + 1) count)
 
-pub all_short : (texts more : List (List ℕ)) (text : List ℕ) (of : Text) → more ≡ texts ++ text ∷ [] → All (λ (t : List ℕ). length t ≤ 33_554_432) texts → length text ≤ limit_of of
-    → All (λ (t : List ℕ). length t ≤ 33_554_432) more
+pub all_short : (texts more : List (List ℕ)) (text : List ℕ) (of : Text) → more ≡ texts ++ text ∷ [] → All (λ (t : List ℕ). length t ≤ 67_108_864) texts → length text ≤ limit_of of
+    → All (λ (t : List ℕ). length t ≤ 67_108_864) more
 all_short texts more text of added short within =
-    subst (All (λ (t : List ℕ). length t ≤ 33_554_432)) (sym added) (All-append (λ (t : List ℕ). length t ≤ 33_554_432) texts (text ∷ []) short (alone (omega (arith, within, limits of))))
+    subst (All (λ (t : List ℕ). length t ≤ 67_108_864)) (sym added) (All-append (λ (t : List ℕ). length t ≤ 67_108_864) texts (text ∷ []) short (alone (omega (arith, within, limits of))))
   where
-    alone : length text ≤ 33_554_432 → All (λ (t : List ℕ). length t ≤ 33_554_432) (text ∷ [])
+    alone : length text ≤ 67_108_864 → All (λ (t : List ℕ). length t ≤ 67_108_864) (text ∷ [])
     alone at zero d lt = at
     alone at (suc k) d lt = absurd (omega (arith, lt))
 

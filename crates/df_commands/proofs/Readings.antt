@@ -11,15 +11,15 @@ use Rattle.df_iotext.specs.Schedules.{ReadsSchedule}
 use Rattle.df_iotext.specs.Laws.{InputsHaveOneReading, InputsHaveReadings, SchedulesHaveOneReading, SchedulesHaveReadings}
 use Rattle.df_iotext.specs.declared.inputs.InputAnswer.{InputAnswer}
 use Rattle.df_celltext.specs.declared.version.Version.TheVariants.{One, Two}
-use Rattle.df_commands.specs.Laws.{AcceptedSourcesBindNewNames, CellFilesHaveOneReading, CellFilesHaveReadings, DualFilesHaveOneReading, DualFilesHaveReadings, CompilationsHaveOneReading, CompilationsHaveReadings, ProgramsHaveOneReading, ProgramsHaveReadings, HasOneVerdict, HasSomeVerdict}
+use Rattle.df_commands.specs.Laws.{AcceptedSourcesBindNewNames, CellFilesHaveOneReading, CellFilesHaveReadings, TraceFilesHaveOneReading, TraceFilesHaveReadings, DualFilesHaveOneReading, DualFilesHaveReadings, CompilationsHaveOneReading, CompilationsHaveReadings, ProgramsHaveOneReading, ProgramsHaveReadings, HasOneVerdict, HasSomeVerdict}
 use Rattle.df_commands.specs.Lines.{refusal}
 use Rattle.df_commands.specs.Inputs.{decls_by}
 use Rattle.df_commands.specs.Commands.{texts_of}
 use Rattle.df_commands.specs.declared.command.Command.{Command}
-use Rattle.df_commands.specs.declared.command.Command.TheVariants.{Check, Eval, Compile, Go, Run, Verify, Migrate}
+use Rattle.df_commands.specs.declared.command.Command.TheVariants.{Check, Eval, Compile, Go, Run, Trace, Replay, Verify, Migrate, Lockstep}
 use Rattle.df_commands.specs.ProgramTexts.{ReadsProgram, ReadsCompilable}
-use Rattle.df_commands.specs.Texts.{input_reason, and_word, ReadsInputText, ReadsScheduleText, ReadsCellFile, ReadsDualFile}
-use Rattle.df_commands.specs.Verdicts.{Verdict, Refused, Accepted, Task, TellRight, TellMeaning, CompileSource, CompileAndRun, RunCells, TellLeast, WriteAnew, AfterText, AfterRead, Goes, JudgesInputs, JudgesGo, JudgesRun, JudgesVerify, JudgesEval, JudgesTexts, nth, texts_at}
+use Rattle.df_commands.specs.Texts.{input_reason, and_word, ReadsInputText, ReadsScheduleText, ReadsCellFile, ReadsTraceFile, ReadsDualFile}
+use Rattle.df_commands.specs.Verdicts.{Verdict, Refused, Accepted, Task, TellRight, TellMeaning, CompileSource, CompileAndRun, RunCells, TellEvents, RunLines, TellLeast, WriteAnew, RunInPhases, AfterText, AfterRead, Goes, JudgesInputs, JudgesGo, JudgesCells, JudgesReplay, JudgesVerify, JudgesEval, JudgesLockstep, JudgesTexts, nth, texts_at}
 use Rattle.df_syntax.specs.SourceMeaning.{source_inputs}
 use Rattle.df_syntax.specs.declared.program.Program.{Program as Tree}
 use Rattle.df_commands.proofs.OwnNames.{cells_names}
@@ -96,8 +96,8 @@ abbrev pub run_asked : (input schedule cells dual : List ℕ) → Verdict → Tr
 run_asked input schedule cells dual v tree =
     JudgesInputs (decls_by (source_inputs tree)) input schedule (λ inputs choices. CompileAndRun tree inputs choices cells dual) v
 
-abbrev cells_asked : (input schedule : List ℕ) → Verdict → List Cell → Type 0
-cells_asked input schedule v cells = JudgesInputs (inputs_of cells) input schedule (λ inputs choices. RunCells cells inputs choices) v
+abbrev cells_asked : (input schedule : List ℕ) → (List Cell → List (List Value) → Schedule → Task) → Verdict → List Cell → Type 0
+cells_asked input schedule task v cells = JudgesInputs (inputs_of cells) input schedule (task cells) v
 
 one_go : InputsHaveOneReading → SchedulesHaveOneReading → CompilationsHaveOneReading → AcceptedSourcesBindNewNames → (source input schedule cells dual : List ℕ) (v w : Verdict)
     → JudgesGo source input schedule cells dual v → JudgesGo source input schedule cells dual w → v ≡ w
@@ -106,11 +106,27 @@ one_go one_input one_schedule one_compilation new source input schedule cells du
     (λ tree read. one_run one_input one_schedule (decls_by (source_inputs tree)) (own_names tree (new source tree read.0.0 read.0.1.sized)) input schedule
     (λ inputs choices. CompileAndRun tree inputs choices cells dual) v w)
 
-one_file : InputsHaveOneReading → SchedulesHaveOneReading → CellFilesHaveOneReading → (cells input schedule : List ℕ) (v w : Verdict)
-    → JudgesRun cells input schedule v → JudgesRun cells input schedule w → v ≡ w
-one_file one_input one_schedule one_cells cells input schedule v w =
-    one_after_text (ReadsCellFile Two cells) v w (cells_asked input schedule) (one_cells Two cells)
-    (λ list read. one_run one_input one_schedule (inputs_of list) (cells_names list read.1) input schedule (λ inputs choices. RunCells list inputs choices) v w)
+one_file : InputsHaveOneReading → SchedulesHaveOneReading → CellFilesHaveOneReading → (cells input schedule : List ℕ) (task : List Cell → List (List Value) → Schedule → Task) (v w : Verdict)
+    → JudgesCells cells input schedule task v → JudgesCells cells input schedule task w → v ≡ w
+one_file one_input one_schedule one_cells cells input schedule task v w =
+    one_after_text (ReadsCellFile Two cells) v w (cells_asked input schedule task) (one_cells Two cells)
+    (λ list read. one_run one_input one_schedule (inputs_of list) (cells_names list read.1) input schedule (task list) v w)
+
+-- what is asked once the lines of a trace were read, once the inputs were, and once the cells were
+abbrev lines_asked : List Cell → List (List Value) → Verdict → List (List ℕ) → Type 0
+lines_asked cells inputs v lines = v ≡ Accepted (RunLines cells inputs lines)
+
+abbrev trace_asked : List ℕ → List Cell → Verdict → List (List Value) → Type 0
+trace_asked trace cells v inputs = AfterText (ReadsTraceFile cells inputs trace) v (lines_asked cells inputs v)
+
+abbrev replay_asked : (input trace : List ℕ) → Verdict → List Cell → Type 0
+replay_asked input trace v cells = AfterText (ReadsInputText (inputs_of cells) input) v (trace_asked trace cells v)
+
+one_replay : InputsHaveOneReading → CellFilesHaveOneReading → TraceFilesHaveOneReading → (cells input trace : List ℕ) (v w : Verdict) → JudgesReplay cells input trace v → JudgesReplay cells input trace w → v ≡ w
+one_replay one_input one_cells one_trace cells input trace v w =
+    one_after_text (ReadsCellFile Two cells) v w (replay_asked input trace) (one_cells Two cells)
+    (λ list read. one_after_text (ReadsInputText (inputs_of list) input) v w (trace_asked trace list) (one_input_reading one_input (inputs_of list) (cells_names list read.1) input)
+    (λ inputs given. one_after_text (ReadsTraceFile list inputs trace) v w (lines_asked list inputs) (λ r s. one_trace list inputs trace r s read.1) (λ lines found p q. p ∙ sym q)))
 
 -- what is asked once the flow was read, and once the cells were
 abbrev told_of : List Cell → Verdict → List ℕ → Type 0
@@ -137,6 +153,19 @@ one_meaning one_input one_program new source input v w =
     (λ tree read. one_after_text (ReadsInputText (decls_by (source_inputs tree)) input) v w (meaning_told tree)
     (one_input_reading one_input (decls_by (source_inputs tree)) (own_names tree (new source tree read.0 read.1.sized)) input) (λ inputs given p q. p ∙ sym q))
 
+-- what is asked once the inputs of cells were read that run in phases, and once the cells were
+abbrev pub phases_asked : List Cell → Verdict → List (List Value) → Type 0
+phases_asked cells v inputs = v ≡ Accepted (RunInPhases cells inputs)
+
+abbrev pub input_asked : List ℕ → Verdict → List Cell → Type 0
+input_asked input v cells = AfterText (ReadsInputText (inputs_of cells) input) v (phases_asked cells v)
+
+one_of_phases : InputsHaveOneReading → CellFilesHaveOneReading → (cells input : List ℕ) (v w : Verdict) → JudgesLockstep cells input v → JudgesLockstep cells input w → v ≡ w
+one_of_phases one_input one_cells cells input v w =
+    one_after_text (ReadsCellFile Two cells) v w (input_asked input) (one_cells Two cells)
+    (λ list read. one_after_text (ReadsInputText (inputs_of list) input) v w (phases_asked list)
+    (one_input_reading one_input (inputs_of list) (cells_names list read.1) input) (λ inputs given p q. p ∙ sym q))
+
 -- what is asked once older cells were read
 abbrev anew_asked : List ℕ → Verdict → List Cell → Type 0
 anew_asked name v list = v ≡ Accepted (WriteAnew list name)
@@ -145,24 +174,30 @@ anew_asked name v list = v ≡ Accepted (WriteAnew list name)
 abbrev pub compiled_asked : (cells dual : List ℕ) → Verdict → Tree → Type 0
 compiled_asked cells dual v tree = v ≡ Accepted (CompileSource tree cells dual)
 
-one_of_texts : InputsHaveOneReading → SchedulesHaveOneReading → CellFilesHaveOneReading → DualFilesHaveOneReading → ProgramsHaveOneReading → CompilationsHaveOneReading → AcceptedSourcesBindNewNames
+one_of_texts : InputsHaveOneReading → SchedulesHaveOneReading → CellFilesHaveOneReading → TraceFilesHaveOneReading → DualFilesHaveOneReading → ProgramsHaveOneReading → CompilationsHaveOneReading → AcceptedSourcesBindNewNames
     → (command : Command) (texts writes : List (List ℕ)) (v w : Verdict) → JudgesTexts command texts writes v → JudgesTexts command texts writes w → v ≡ w
-one_of_texts one_input one_schedule one_cells one_dual one_program one_compilation new Check texts writes v w =
+one_of_texts one_input one_schedule one_cells one_trace one_dual one_program one_compilation new Check texts writes v w =
     one_after_text (ReadsProgram (nth texts 0)) v w (λ u tree. u ≡ Accepted TellRight) (one_program (nth texts 0)) (λ tree read p q. p ∙ sym q)
-one_of_texts one_input one_schedule one_cells one_dual one_program one_compilation new Eval texts writes v w = one_meaning one_input one_program new (nth texts 0) (nth texts 1) v w
-one_of_texts one_input one_schedule one_cells one_dual one_program one_compilation new Compile texts writes v w =
+one_of_texts one_input one_schedule one_cells one_trace one_dual one_program one_compilation new Eval texts writes v w = one_meaning one_input one_program new (nth texts 0) (nth texts 1) v w
+one_of_texts one_input one_schedule one_cells one_trace one_dual one_program one_compilation new Compile texts writes v w =
     one_after_text (ReadsCompilable (nth texts 0)) v w (compiled_asked (nth writes 0) (nth writes 1)) (one_compilation (nth texts 0)) (λ tree read p q. p ∙ sym q)
-one_of_texts one_input one_schedule one_cells one_dual one_program one_compilation new Go texts writes v w =
+one_of_texts one_input one_schedule one_cells one_trace one_dual one_program one_compilation new Go texts writes v w =
     one_go one_input one_schedule one_compilation new (nth texts 0) (nth texts 1) (nth texts 2) (nth writes 0) (nth writes 1) v w
-one_of_texts one_input one_schedule one_cells one_dual one_program one_compilation new Run texts writes v w = one_file one_input one_schedule one_cells (nth texts 0) (nth texts 1) (nth texts 2) v w
-one_of_texts one_input one_schedule one_cells one_dual one_program one_compilation new Verify texts writes v w = one_pair one_cells one_dual (nth texts 0) (nth texts 1) v w
-one_of_texts one_input one_schedule one_cells one_dual one_program one_compilation new Migrate texts writes v w =
+one_of_texts one_input one_schedule one_cells one_trace one_dual one_program one_compilation new Run texts writes v w =
+    one_file one_input one_schedule one_cells (nth texts 0) (nth texts 1) (nth texts 2) (λ cells inputs choices. RunCells cells inputs choices) v w
+one_of_texts one_input one_schedule one_cells one_trace one_dual one_program one_compilation new Trace texts writes v w =
+    one_file one_input one_schedule one_cells (nth texts 0) (nth texts 1) (nth texts 2) (λ cells inputs choices. TellEvents cells inputs choices) v w
+one_of_texts one_input one_schedule one_cells one_trace one_dual one_program one_compilation new Replay texts writes v w =
+    one_replay one_input one_cells one_trace (nth texts 0) (nth texts 1) (nth texts 2) v w
+one_of_texts one_input one_schedule one_cells one_trace one_dual one_program one_compilation new Verify texts writes v w = one_pair one_cells one_dual (nth texts 0) (nth texts 1) v w
+one_of_texts one_input one_schedule one_cells one_trace one_dual one_program one_compilation new Migrate texts writes v w =
     one_after_text (ReadsCellFile One (nth texts 0)) v w (anew_asked (nth writes 0)) (one_cells One (nth texts 0)) (λ list read p q. p ∙ sym q)
+one_of_texts one_input one_schedule one_cells one_trace one_dual one_program one_compilation new Lockstep texts writes v w = one_of_phases one_input one_cells (nth texts 0) (nth texts 1) v w
 
-pub one_verdict : InputsHaveOneReading → SchedulesHaveOneReading → CellFilesHaveOneReading → DualFilesHaveOneReading → ProgramsHaveOneReading → CompilationsHaveOneReading → AcceptedSourcesBindNewNames → HasOneVerdict
-one_verdict one_input one_schedule one_cells one_dual one_program one_compilation new order holds v w =
+pub one_verdict : InputsHaveOneReading → SchedulesHaveOneReading → CellFilesHaveOneReading → TraceFilesHaveOneReading → DualFilesHaveOneReading → ProgramsHaveOneReading → CompilationsHaveOneReading → AcceptedSourcesBindNewNames → HasOneVerdict
+one_verdict one_input one_schedule one_cells one_trace one_dual one_program one_compilation new order holds v w =
     one_after_read (texts_at holds order.reads (texts_of order.command)) v w (λ u texts. JudgesTexts order.command texts order.writes u)
-    (λ texts. one_of_texts one_input one_schedule one_cells one_dual one_program one_compilation new order.command texts order.writes v w)
+    (λ texts. one_of_texts one_input one_schedule one_cells one_trace one_dual one_program one_compilation new order.command texts order.writes v w)
 
 -- ---- there is a verdict
 
@@ -208,27 +243,43 @@ some_meaning some_input some_program source input =
     (λ tree read. some_after_text (ReadsInputText (decls_by (source_inputs tree)) input) (meaning_told tree) (some_input_reading some_input (decls_by (source_inputs tree)) input)
     (λ inputs given none. none (Accepted (TellMeaning tree inputs)) refl))
 
-some_of_texts : InputsHaveReadings → SchedulesHaveReadings → CellFilesHaveReadings → DualFilesHaveReadings → ProgramsHaveReadings → CompilationsHaveReadings
+some_file : InputsHaveReadings → SchedulesHaveReadings → CellFilesHaveReadings → (cells input schedule : List ℕ) (task : List Cell → List (List Value) → Schedule → Task)
+    → ¬ ((v : Verdict) → ¬ JudgesCells cells input schedule task v)
+some_file some_input some_schedule some_cells cells input schedule task =
+    some_after_text (ReadsCellFile Two cells) (cells_asked input schedule task) (some_cells Two cells)
+    (λ list read. some_run some_input some_schedule (inputs_of list) input schedule (task list))
+
+some_of_texts : InputsHaveReadings → SchedulesHaveReadings → CellFilesHaveReadings → TraceFilesHaveReadings → DualFilesHaveReadings → ProgramsHaveReadings → CompilationsHaveReadings
     → (command : Command) (texts writes : List (List ℕ)) → ¬ ((v : Verdict) → ¬ JudgesTexts command texts writes v)
-some_of_texts some_input some_schedule some_cells some_dual some_program some_compilation Check texts writes =
+some_of_texts some_input some_schedule some_cells some_trace some_dual some_program some_compilation Check texts writes =
     some_after_text (ReadsProgram (nth texts 0)) (λ u tree. u ≡ Accepted TellRight) (some_program (nth texts 0)) (λ tree read none. none (Accepted TellRight) refl)
-some_of_texts some_input some_schedule some_cells some_dual some_program some_compilation Eval texts writes = some_meaning some_input some_program (nth texts 0) (nth texts 1)
-some_of_texts some_input some_schedule some_cells some_dual some_program some_compilation Compile texts writes =
+some_of_texts some_input some_schedule some_cells some_trace some_dual some_program some_compilation Eval texts writes = some_meaning some_input some_program (nth texts 0) (nth texts 1)
+some_of_texts some_input some_schedule some_cells some_trace some_dual some_program some_compilation Compile texts writes =
     some_after_text (ReadsCompilable (nth texts 0)) (compiled_asked (nth writes 0) (nth writes 1)) (some_compilation (nth texts 0))
     (λ tree read none. none (Accepted (CompileSource tree (nth writes 0) (nth writes 1))) refl)
-some_of_texts some_input some_schedule some_cells some_dual some_program some_compilation Go texts writes =
+some_of_texts some_input some_schedule some_cells some_trace some_dual some_program some_compilation Go texts writes =
     some_after_text (ReadsCompilable (nth texts 0)) (run_asked (nth texts 1) (nth texts 2) (nth writes 0) (nth writes 1)) (some_compilation (nth texts 0))
     (λ tree read. some_run some_input some_schedule (decls_by (source_inputs tree)) (nth texts 1) (nth texts 2) (λ inputs choices. CompileAndRun tree inputs choices (nth writes 0) (nth writes 1)))
-some_of_texts some_input some_schedule some_cells some_dual some_program some_compilation Run texts writes =
-    some_after_text (ReadsCellFile Two (nth texts 0)) (cells_asked (nth texts 1) (nth texts 2)) (some_cells Two (nth texts 0))
-    (λ list read. some_run some_input some_schedule (inputs_of list) (nth texts 1) (nth texts 2) (λ inputs choices. RunCells list inputs choices))
-some_of_texts some_input some_schedule some_cells some_dual some_program some_compilation Verify texts writes =
+some_of_texts some_input some_schedule some_cells some_trace some_dual some_program some_compilation Run texts writes =
+    some_file some_input some_schedule some_cells (nth texts 0) (nth texts 1) (nth texts 2) (λ cells inputs choices. RunCells cells inputs choices)
+some_of_texts some_input some_schedule some_cells some_trace some_dual some_program some_compilation Trace texts writes =
+    some_file some_input some_schedule some_cells (nth texts 0) (nth texts 1) (nth texts 2) (λ cells inputs choices. TellEvents cells inputs choices)
+some_of_texts some_input some_schedule some_cells some_trace some_dual some_program some_compilation Replay texts writes =
+    some_after_text (ReadsCellFile Two (nth texts 0)) (replay_asked (nth texts 1) (nth texts 2)) (some_cells Two (nth texts 0))
+    (λ list read. some_after_text (ReadsInputText (inputs_of list) (nth texts 1)) (trace_asked (nth texts 2) list) (some_input_reading some_input (inputs_of list) (nth texts 1))
+    (λ inputs given. some_after_text (ReadsTraceFile list inputs (nth texts 2)) (lines_asked list inputs) (some_trace list inputs (nth texts 2))
+    (λ lines found none. none (Accepted (RunLines list inputs lines)) refl)))
+some_of_texts some_input some_schedule some_cells some_trace some_dual some_program some_compilation Verify texts writes =
     some_after_text (ReadsCellFile Two (nth texts 0)) (dual_asked (nth texts 1)) (some_cells Two (nth texts 0))
     (λ list read. some_after_text (ReadsDualFile list (nth texts 1)) (told_of list) (some_dual list (nth texts 1) read.1) (λ flow certified none. none (Accepted (TellLeast list)) refl))
-some_of_texts some_input some_schedule some_cells some_dual some_program some_compilation Migrate texts writes =
+some_of_texts some_input some_schedule some_cells some_trace some_dual some_program some_compilation Migrate texts writes =
     some_after_text (ReadsCellFile One (nth texts 0)) (anew_asked (nth writes 0)) (some_cells One (nth texts 0)) (λ list read none. none (Accepted (WriteAnew list (nth writes 0))) refl)
+some_of_texts some_input some_schedule some_cells some_trace some_dual some_program some_compilation Lockstep texts writes =
+    some_after_text (ReadsCellFile Two (nth texts 0)) (input_asked (nth texts 1)) (some_cells Two (nth texts 0))
+    (λ list read. some_after_text (ReadsInputText (inputs_of list) (nth texts 1)) (phases_asked list) (some_input_reading some_input (inputs_of list) (nth texts 1))
+    (λ inputs given none. none (Accepted (RunInPhases list inputs)) refl))
 
-pub some_verdict : InputsHaveReadings → SchedulesHaveReadings → CellFilesHaveReadings → DualFilesHaveReadings → ProgramsHaveReadings → CompilationsHaveReadings → HasSomeVerdict
-some_verdict some_input some_schedule some_cells some_dual some_program some_compilation order holds =
+pub some_verdict : InputsHaveReadings → SchedulesHaveReadings → CellFilesHaveReadings → TraceFilesHaveReadings → DualFilesHaveReadings → ProgramsHaveReadings → CompilationsHaveReadings → HasSomeVerdict
+some_verdict some_input some_schedule some_cells some_trace some_dual some_program some_compilation order holds =
     some_after_read (texts_at holds order.reads (texts_of order.command)) (λ u texts. JudgesTexts order.command texts order.writes u)
-    (λ texts. some_of_texts some_input some_schedule some_cells some_dual some_program some_compilation order.command texts order.writes)
+    (λ texts. some_of_texts some_input some_schedule some_cells some_trace some_dual some_program some_compilation order.command texts order.writes)

@@ -13,13 +13,13 @@ use Rattle.df_machine.specs.Laws.{TellsShortRuns}
 other_than : (n : ℕ) → (suc n == 0) ≡ false
 other_than n = grind arith
 
-same_test : (b : Bool) (n : ℕ) → (IsTrue b ↔ (n ≡ 0)) → b ≡ (n == 0)
+pub same_test : (b : Bool) (n : ℕ) → (IsTrue b ↔ (n ≡ 0)) → b ≡ (n == 0)
 same_test true zero h = refl
 same_test true (suc n) h = absurd (let e = h.0 refl in omega arith)
 same_test false zero h = absurd (false≢true (h.1 refl))
 same_test false (suc n) h = sym (other_than n)
 
-abbrev loaded_with : List Cell → List (List Value) → Loaded
+abbrev pub loaded_with : List Cell → List (List Value) → Loaded
 loaded_with cells inputs = record { cells = cells; inputs = inputs; state = start cells }
 
 same_loaded : (cells : List Cell) (inputs : List (List Value)) (loaded : Loaded) → loaded.cells ≡ cells → loaded.inputs ≡ inputs → loaded.state ≡ start cells → loaded ≡ loaded_with cells inputs
@@ -60,3 +60,15 @@ same_report law cells inputs choices loaded ran n drained a b c d e few h =
     ∙ ap (λ s. record { cells = cells; inputs = inputs; state = s }) (whole_told law cells inputs choices (omega (arith, few, count))) in
     ap (λ r. reported r n drained) whole ∙ ap (λ k. reported (ran_whole cells inputs choices) k drained) count
     ∙ report_of cells inputs choices drained (subst (λ (r : Loaded). IsTrue drained ↔ (possible r.cells r.state ≡ 0)) whole h)
+
+-- The same where the choices taken are known to be those of the schedule, few enough to be counted.
+pub schedule_report : TellsShortRuns → (cells : List Cell) (inputs : List (List Value)) (choices taken : List ℕ) (loaded ran : Loaded) (n : ℕ) (drained : Bool)
+    → loaded.cells ≡ cells → loaded.inputs ≡ inputs → loaded.state ≡ start cells → taken ≡ choices → ran ≡ ran_from loaded taken → n ≡ events_from loaded.cells loaded.inputs loaded.state taken
+    → n ≤ 4294967295 → (IsTrue drained ↔ (possible ran.cells ran.state ≡ 0)) → reported ran n drained ≡ report cells inputs choices
+schedule_report law cells inputs choices taken loaded ran n drained a b c same d e few h =
+    same_report law cells inputs choices loaded ran n drained a b c (d ∙ ap (ran_from loaded) same) (e ∙ ap (events_from loaded.cells loaded.inputs loaded.state) same) few h
+
+-- whether a run is drained
+pub drained_is : (cells : List Cell) (inputs : List (List Value)) (choices : List ℕ) → (possible cells (after cells inputs choices) == 0) ≡ (report cells inputs choices).drained
+unfolding report
+drained_is cells inputs choices = refl

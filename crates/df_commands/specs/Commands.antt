@@ -3,9 +3,10 @@ use Rattle.std.specs.Prelude.{ℕ, List, [], ◌∷◌, ◌+◌, ◌==◌, lengt
 use Rattle.std.specs.List.{list_any, find}
 use Rattle.std.specs.Str.{bytes_eq}
 use Rattle.df_commands.specs.declared.command.Command.{Command}
-use Rattle.df_commands.specs.declared.command.Command.TheVariants.{Check, Eval, Compile, Go, Run, Verify, Migrate}
+use Rattle.df_commands.specs.declared.command.Command.TheVariants.{Check, Eval, Compile, Go, Run, Trace, Replay, Verify, Migrate, Lockstep}
 use Rattle.df_commands.specs.declared.command.Text.{Text}
 use Rattle.df_commands.specs.declared.command.Text.TheVariants.{Source, Input, Schedule, Cells, Dual}
+use Rattle.df_commands.specs.declared.command.Text.TheVariants as text
 
 -- ---- the texts
 
@@ -16,6 +17,7 @@ label_of Input = codes "input"
 label_of Schedule = codes "schedule"
 label_of Cells = codes "cells"
 label_of Dual = codes "dual"
+label_of text.Trace = codes "trace"
 
 -- the most bytes of a text
 abbrev pub limit_of : Text → ℕ
@@ -24,6 +26,7 @@ limit_of Input = 16_777_216
 limit_of Schedule = 16_777_216
 limit_of Cells = 33_554_432
 limit_of Dual = 8_388_608
+limit_of text.Trace = 67_108_864
 
 -- ---- the commands
 
@@ -34,8 +37,11 @@ word_of Eval = codes "eval"
 word_of Compile = codes "compile"
 word_of Go = codes "go"
 word_of Run = codes "run"
+word_of Trace = codes "trace"
+word_of Replay = codes "replay"
 word_of Verify = codes "verify"
 word_of Migrate = codes "migrate"
+word_of Lockstep = codes "lockstep"
 
 -- the texts that it reads, in the order in which their files are named
 abbrev pub texts_of : Command → List Text
@@ -44,8 +50,11 @@ texts_of Eval = Source ∷ Input ∷ []
 texts_of Compile = Source ∷ []
 texts_of Go = Source ∷ Input ∷ Schedule ∷ []
 texts_of Run = Cells ∷ Input ∷ Schedule ∷ []
+texts_of Trace = Cells ∷ Input ∷ Schedule ∷ []
+texts_of Replay = Cells ∷ Input ∷ text.Trace ∷ []
 texts_of Verify = Cells ∷ Dual ∷ []
 texts_of Migrate = Cells ∷ []
+texts_of Lockstep = Cells ∷ Input ∷ []
 
 -- how many files it writes; they are named behind those that it reads
 abbrev pub written_by : Command → ℕ
@@ -55,7 +64,7 @@ written_by Migrate = 1
 written_by _ = 0
 
 abbrev pub commands : List Command
-commands = Check ∷ Eval ∷ Compile ∷ Go ∷ Run ∷ Verify ∷ Migrate ∷ []
+commands = Check ∷ Eval ∷ Compile ∷ Go ∷ Run ∷ Trace ∷ Replay ∷ Verify ∷ Migrate ∷ Lockstep ∷ []
 
 -- ---- the words
 

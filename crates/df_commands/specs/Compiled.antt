@@ -17,6 +17,8 @@ use Rattle.df_labels.specs.Histories.{IsPrefix}
 use Rattle.df_machine.specs.Events.{chosen_event, possible}
 use Rattle.df_machine.specs.Reports.{Report, report}
 use Rattle.df_machine.specs.Runs.{after, IsClash}
+use Rattle.df_machine.specs.States.{start}
+use Rattle.df_trace.specs.Traces.{HaveLines, trace_text}
 use Rattle.df_syntax.specs.SourceMeaning.{source_inputs, source_mean}
 use Rattle.df_syntax.specs.declared.program.Program.{Program as Tree}
 use Rattle.df_build_elem.specs.Program.{program_graph}
@@ -25,9 +27,10 @@ use Rattle.df_buffers_laws.specs.Staged.{HasLowestStage}
 use Rattle.df_commands.specs.Effects.{Effect}
 use Rattle.df_commands.specs.Inputs.{decls_by}
 use Rattle.df_commands.specs.Lines.{line}
+use Rattle.df_commands.specs.Phased.{EndsAfter, report_of_phases, phases_text}
 use Rattle.df_commands.specs.ProgramTexts.{flat_of}
 use Rattle.df_commands.specs.Reports.{report_text, counts_text, least_text, migrated_text}
-use Rattle.df_commands.specs.Verdicts.{Task, TellRight, TellMeaning, CompileSource, CompileAndRun, RunCells, TellLeast, WriteAnew}
+use Rattle.df_commands.specs.Verdicts.{Task, TellRight, TellMeaning, CompileSource, CompileAndRun, RunCells, TellEvents, RunLines, TellLeast, WriteAnew, RunInPhases}
 
 -- ---- what is promised
 
@@ -95,8 +98,27 @@ MayDo (RunCells cells inputs schedule) effect =
       text = report_text (run_of cells inputs schedule);
       is_done = (run_of cells inputs schedule).drained;
     }
+-- the lines of the events of the run, in order
+MayDo (TellEvents cells inputs schedule) effect =
+    effect ≡ record {
+      files = [];
+      text = trace_text cells inputs (start cells) (choices_of schedule);
+      is_done = (run_of cells inputs schedule).drained;
+    }
+-- the report of the run whose events have these lines
+MayDo (RunLines cells inputs lines) effect =
+    (choices : List ℕ) × HaveLines cells inputs (start cells) choices lines
+    × (effect ≡ record { files = []; text = report_text (report cells inputs choices); is_done = (report cells inputs choices).drained })
 -- it is told only of cells that are balanced, and whose buffers are least
 MayDo (TellLeast cells) effect =
     IsBalanced cells × IsLeast cells × (effect ≡ record { files = []; text = least_text cells; is_done = true })
 MayDo (WriteAnew cells name) effect =
     effect ≡ record { files = (name, cell_text cells) ∷ []; text = migrated_text cells; is_done = true }
+-- the phases of the run are as many as it takes until no event is possible, within the limit
+MayDo (RunInPhases cells inputs) effect =
+    (phases : ℕ) × EndsAfter cells inputs phases
+    × (effect ≡ record {
+      files = [];
+      text = phases_text cells inputs phases;
+      is_done = (report_of_phases cells inputs phases).drained;
+    })

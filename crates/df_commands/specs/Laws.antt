@@ -18,7 +18,7 @@ use Rattle.df_celltext.specs.declared.version.Version.{Version}
 use Rattle.df_commands.specs.Compiled.{IsGood, run_of}
 use Rattle.df_commands.specs.Commands.{Order}
 use Rattle.df_commands.specs.Ready.{IsFlatOf}
-use Rattle.df_commands.specs.Texts.{ReadsCellFile, ReadsDualFile}
+use Rattle.df_commands.specs.Texts.{ReadsCellFile, ReadsTraceFile, ReadsDualFile}
 use Rattle.df_commands.specs.Verdicts.{Verdict, Judges}
 use Rattle.df_cells.specs.WellFormed.{WellFormed}
 use Rattle.df_syntax.specs.FreshNames.{names_are_new}
@@ -62,6 +62,15 @@ DualFilesHaveOneReading = (cells : List Cell) (text : List ℕ) (one other : Res
 -- there is no text without a reading
 abbrev pub DualFilesHaveReadings : Type 0
 DualFilesHaveReadings = (cells : List Cell) (text : List ℕ) → WellFormed cells → ¬ ((reading : Result (List ℕ) (List ℕ)) → ¬ ReadsDualFile cells text reading)
+
+-- the text of a trace has one reading at most for well-formed cells and any inputs
+abbrev pub TraceFilesHaveOneReading : Type 0
+TraceFilesHaveOneReading = (cells : List Cell) (inputs : List (List Value)) (text : List ℕ) (one other : Result (List (List ℕ)) (List ℕ)) → WellFormed cells
+    → ReadsTraceFile cells inputs text one → ReadsTraceFile cells inputs text other → one ≡ other
+
+-- there is no text without a reading
+abbrev pub TraceFilesHaveReadings : Type 0
+TraceFilesHaveReadings = (cells : List Cell) (inputs : List (List Value)) (text : List ℕ) → ¬ ((reading : Result (List (List ℕ)) (List ℕ)) → ¬ ReadsTraceFile cells inputs text reading)
 
 -- the text of a source has one reading at most
 abbrev pub ProgramsHaveOneReading : Type 0

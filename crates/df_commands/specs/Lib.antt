@@ -6,8 +6,11 @@ pub mod Reports
 pub mod ProgramTexts
 pub mod Texts
 pub mod Verdicts
+pub mod Phased
 pub mod Compiled
+pub mod TracedRuns
 pub mod Plans
 pub mod Judged
+pub mod Replayed
 pub mod Ready
 pub mod Laws

@@ -22,6 +22,7 @@ use Rattle.df_dual_check.specs.Checked.{IsCertified, ShownWrong}
 use Rattle.df_dual_check.specs.DualTexts.{IsDualText, IsFirstWrong}
 use Rattle.df_stages.specs.Skeletons.{arcs}
 use Rattle.df_cells.specs.declared.cells.Dest.{Dest}
+use Rattle.df_trace.specs.Traces.{lines_of, AreLines, IsWrongAt}
 use Rattle.df_commands.specs.Lines.{refusal}
 
 -- ---- inputs
@@ -79,6 +80,13 @@ pub record IsIllFormed (version : Version) (text line : List ℕ) : Type 0 where
 abbrev pub ReadsCellFile : Version → List ℕ → Result (List Cell) (List ℕ) → Type 0
 ReadsCellFile version text (Ok cells) = IsTextIn version text cells × WellFormed cells
 ReadsCellFile version text (Err line) = IsWrongText version text line ⊎ IsIllFormed version text line
+
+-- ---- traces
+
+-- what is read for these cells and inputs: lines that are those of events, each possible at its turn; or the number of the first that isn't
+abbrev pub ReadsTraceFile : List Cell → List (List Value) → List ℕ → Result (List (List ℕ)) (List ℕ) → Type 0
+ReadsTraceFile cells inputs text (Ok lines) = (lines ≡ lines_of text) × AreLines cells inputs lines
+ReadsTraceFile cells inputs text (Err line) = (number : ℕ) × (line ≡ refusal (codes "BadTrace" ++ and_word (decimal number))) × IsWrongAt cells inputs (lines_of text) number
 
 -- ---- dual files
 

@@ -11,26 +11,30 @@ use Rattle.df_celltext.specs.declared.version.Version.TheVariants.{One, Two}
 use Rattle.df_syntax.specs.declared.program.Program.{Program as Tree}
 use Rattle.df_syntax.specs.SourceMeaning.{source_inputs}
 use Rattle.df_commands.specs.declared.command.Command.{Command}
-use Rattle.df_commands.specs.declared.command.Command.TheVariants.{Check, Eval, Compile, Go, Run, Verify, Migrate}
+use Rattle.df_commands.specs.declared.command.Command.TheVariants.{Check, Eval, Compile, Go, Run, Trace, Replay, Verify, Migrate, Lockstep}
 use Rattle.df_commands.specs.declared.command.Text.{Text}
 use Rattle.df_commands.specs.Commands.{Order, texts_of, label_of, limit_of}
 use Rattle.df_commands.specs.Inputs.{decls_by}
 use Rattle.df_commands.specs.Lines.{refusal}
 use Rattle.df_commands.specs.ProgramTexts.{ReadsProgram, ReadsCompilable}
-use Rattle.df_commands.specs.Texts.{ReadsInputText, ReadsScheduleText, ReadsCellFile, ReadsDualFile}
+use Rattle.df_commands.specs.Texts.{ReadsInputText, ReadsScheduleText, ReadsCellFile, ReadsTraceFile, ReadsDualFile}
 
 -- What the texts of a command ask for, once none of them is refused: that a source is told to be right, that its
 -- meaning is told under some inputs, that it is compiled and its cells are written, that its cells are run as well,
--- that cells are run, that it is told of cells that their buffers are balanced and least, or that cells of an older
--- form are written anew.
+-- that cells are run, that the events of their run are told, that they are run by lines of events, that it is told of
+-- cells that their buffers are balanced and least, that cells of an older form are written anew, or that cells are run
+-- in phases.
 pub data Task : Type 0 where
   TellRight : Task
   TellMeaning : (tree : Tree) (inputs : List (List Value)) → Task
   CompileSource : (tree : Tree) (cells dual : List ℕ) → Task
   CompileAndRun : (tree : Tree) (inputs : List (List Value)) (schedule : Schedule) (cells dual : List ℕ) → Task
   RunCells : (cells : List Cell) (inputs : List (List Value)) (schedule : Schedule) → Task
+  TellEvents : (cells : List Cell) (inputs : List (List Value)) (schedule : Schedule) → Task
+  RunLines : (cells : List Cell) (inputs : List (List Value)) (lines : List (List ℕ)) → Task
   TellLeast : (cells : List Cell) → Task
   WriteAnew : (cells : List Cell) (name : List ℕ) → Task
+  RunInPhases : (cells : List Cell) (inputs : List (List Value)) → Task
 
 -- A file to be read isn't there, a text is refused by this line, or the task is to be done.
 pub data Verdict : Type 0 where
@@ -92,10 +96,23 @@ JudgesGo source input schedule cells dual v =
     JudgesInputs (decls_by (source_inputs tree)) input schedule
     (λ inputs choices. CompileAndRun tree inputs choices cells dual) v)
 
+abbrev pub JudgesCells : (cells input schedule : List ℕ) → (List Cell → List (List Value) → Schedule → Task) → Verdict → Type 0
+JudgesCells cells input schedule task v =
+    AfterText (ReadsCellFile Two cells) v (λ list. JudgesInputs (inputs_of list) input schedule (task list) v)
+
 abbrev pub JudgesRun : (cells input schedule : List ℕ) → Verdict → Type 0
-JudgesRun cells input schedule v =
+JudgesRun cells input schedule v = JudgesCells cells input schedule (λ list inputs choices. RunCells list inputs choices) v
+
+abbrev pub JudgesTrace : (cells input schedule : List ℕ) → Verdict → Type 0
+JudgesTrace cells input schedule v = JudgesCells cells input schedule (λ list inputs choices. TellEvents list inputs choices) v
+
+-- the events are the check of the trace
+abbrev pub JudgesReplay : (cells input trace : List ℕ) → Verdict → Type 0
+JudgesReplay cells input trace v =
     AfterText (ReadsCellFile Two cells) v (λ list.
-    JudgesInputs (inputs_of list) input schedule (λ inputs choices. RunCells list inputs choices) v)
+    AfterText (ReadsInputText (inputs_of list) input) v (λ inputs.
+    AfterText (ReadsTraceFile list inputs trace) v (λ lines.
+    v ≡ Accepted (RunLines list inputs lines))))
 
 abbrev pub JudgesCheck : (source : List ℕ) → Verdict → Type 0
 JudgesCheck source v = AfterText (ReadsProgram source) v (λ tree. v ≡ Accepted TellRight)
@@ -118,6 +135,12 @@ JudgesVerify cells dual v =
 abbrev pub JudgesMigrate : (old : List ℕ) → (cells : List ℕ) → Verdict → Type 0
 JudgesMigrate old cells v = AfterText (ReadsCellFile One old) v (λ list. v ≡ Accepted (WriteAnew list cells))
 
+abbrev pub JudgesLockstep : (cells input : List ℕ) → Verdict → Type 0
+JudgesLockstep cells input v =
+    AfterText (ReadsCellFile Two cells) v (λ list.
+    AfterText (ReadsInputText (inputs_of list) input) v (λ inputs.
+    v ≡ Accepted (RunInPhases list inputs)))
+
 -- the text, or the name, of this number
 abbrev pub nth : List (List ℕ) → ℕ → List ℕ
 nth list k = get_or list k []
@@ -129,8 +152,11 @@ JudgesTexts Eval texts writes v = JudgesEval (nth texts 0) (nth texts 1) v
 JudgesTexts Compile texts writes v = JudgesCompile (nth texts 0) (nth writes 0) (nth writes 1) v
 JudgesTexts Go texts writes v = JudgesGo (nth texts 0) (nth texts 1) (nth texts 2) (nth writes 0) (nth writes 1) v
 JudgesTexts Run texts writes v = JudgesRun (nth texts 0) (nth texts 1) (nth texts 2) v
+JudgesTexts Trace texts writes v = JudgesTrace (nth texts 0) (nth texts 1) (nth texts 2) v
+JudgesTexts Replay texts writes v = JudgesReplay (nth texts 0) (nth texts 1) (nth texts 2) v
 JudgesTexts Verify texts writes v = JudgesVerify (nth texts 0) (nth texts 1) v
 JudgesTexts Migrate texts writes v = JudgesMigrate (nth texts 0) (nth writes 0) v
+JudgesTexts Lockstep texts writes v = JudgesLockstep (nth texts 0) (nth texts 1) v
 
 abbrev pub Judges : Order → Holds → Verdict → Type 0
 Judges order holds v = AfterRead (texts_at holds order.reads (texts_of order.command)) v (λ texts. JudgesTexts order.command texts order.writes v)

@@ -19,6 +19,8 @@ pub enum Text {
     Cells,
     /// A dual flow.
     Dual,
+    /// The lines of the events of a run.
+    Trace,
 }
 
 impl Text {
@@ -32,6 +34,7 @@ impl Text {
             Text::Schedule => "schedule",
             Text::Cells => "cells",
             Text::Dual => "dual",
+            Text::Trace => "trace",
         }
     }
 
@@ -44,6 +47,7 @@ impl Text {
             Text::Input | Text::Schedule => 16_777_216,
             Text::Cells => 33_554_432,
             Text::Dual => 8_388_608,
+            Text::Trace => 67_108_864,
         }
     }
 }
@@ -61,20 +65,29 @@ pub enum Command {
     Go,
     /// Runs the cells of a file.
     Run,
+    /// Runs the cells of a file and writes the line of each event.
+    Trace,
+    /// Runs the cells of a file by the lines of a trace.
+    Replay,
     /// Tells of the cells of a file that their buffers are balanced and least, if a dual flow shows it.
     Verify,
     /// Writes the cells of a file of version 1 as one of version 2.
     Migrate,
+    /// Runs the cells of a file in lock step.
+    Lockstep,
 }
 
-const COMMANDS: [Command; 7] = [
+const COMMANDS: [Command; 10] = [
     Command::Check,
     Command::Eval,
     Command::Compile,
     Command::Go,
     Command::Run,
+    Command::Trace,
+    Command::Replay,
     Command::Verify,
     Command::Migrate,
+    Command::Lockstep,
 ];
 
 impl Command {
@@ -88,8 +101,11 @@ impl Command {
             Command::Compile => "compile",
             Command::Go => "go",
             Command::Run => "run",
+            Command::Trace => "trace",
+            Command::Replay => "replay",
             Command::Verify => "verify",
             Command::Migrate => "migrate",
+            Command::Lockstep => "lockstep",
         }
     }
 
@@ -101,9 +117,11 @@ impl Command {
             Command::Check | Command::Compile => &[Text::Source],
             Command::Eval => &[Text::Source, Text::Input],
             Command::Go => &[Text::Source, Text::Input, Text::Schedule],
-            Command::Run => &[Text::Cells, Text::Input, Text::Schedule],
+            Command::Run | Command::Trace => &[Text::Cells, Text::Input, Text::Schedule],
+            Command::Replay => &[Text::Cells, Text::Input, Text::Trace],
             Command::Verify => &[Text::Cells, Text::Dual],
             Command::Migrate => &[Text::Cells],
+            Command::Lockstep => &[Text::Cells, Text::Input],
         }
     }
 
@@ -114,7 +132,13 @@ impl Command {
         match self {
             Command::Compile | Command::Go => 2,
             Command::Migrate => 1,
-            Command::Check | Command::Eval | Command::Run | Command::Verify => 0,
+            Command::Check
+            | Command::Eval
+            | Command::Run
+            | Command::Trace
+            | Command::Replay
+            | Command::Verify
+            | Command::Lockstep => 0,
         }
     }
 }

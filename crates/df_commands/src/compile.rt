@@ -7,6 +7,7 @@ ghost use Rattle.df_commands.specs.Verdicts.{CompileSource, JudgesCompile};
 ghost use Rattle.df_commands.specs.Judged.{Settles};
 
 use crate::compilation::{CompiledSource, files_of, judge_compilation};
+use crate::ending::Ending;
 use crate::plan::Plan;
 use crate::report::counts;
 use crate::stop::Stop;
@@ -27,8 +28,10 @@ fn planned<'a>(
 {
     Ok(Plan {
         files: files_of(alloc, &it.compiled, cells, dual)?,
-        text: counts(alloc, &it.compiled.cells)?,
-        is_done: true,
+        ending: Ending::Text {
+            text: counts(alloc, &it.compiled.cells)?,
+            is_done: true,
+        },
     })
 }
 

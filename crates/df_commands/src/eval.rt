@@ -13,7 +13,8 @@ use crate::programs::{Source, judge_program};
 use crate::runs::judge_input;
 use crate::stop::Stop;
 use df_cells::cells::InputDecl;
-use df_core::evaluator::evaluate;
+use df_core::evaluator::{TURNS, evaluate};
+use df_core::laws::results_are_whole_without_loops;
 use df_flattened::laws::lowering_keeps_the_meaning;
 use df_iotext::printing::print_outputs;
 use df_values::inputs::Input;
@@ -78,7 +79,8 @@ pub fn eval<'a>(alloc: Global, source: &[u8], input: &[u8]) -> Result<Plan<'a>, 
     ensures no_fault { IsErrOf result Stop.ReadFault → ⊥ }
 {
     lowering_keeps_the_meaning();
+    results_are_whole_without_loops();
     let it = judged(alloc, source, input)?;
-    let results = evaluate(alloc, &it.source.flat, &it.inputs)?;
+    let results = evaluate(alloc, &it.source.flat, &it.inputs, TURNS)?;
     Ok(Plan::of_text(alloc, print_outputs(alloc, &results)?, true))
 }

@@ -10,6 +10,7 @@ ghost use Rattle.df_commands.specs.Verdicts.{CompileAndRun, JudgesGo};
 ghost use Rattle.df_commands.specs.Judged.{Finds, Settles};
 
 use crate::compilation::{CompiledSource, files_of, judge_compilation};
+use crate::ending::Ending;
 use crate::plan::Plan;
 use crate::runs::{RunTexts, judged_inputs, run_cells};
 use crate::stop::Stop;
@@ -66,8 +67,10 @@ fn planned<'a>(
     let ran = run_cells(alloc, compiled.cells, texts.inputs, &texts.schedule)?;
     Ok(Plan {
         files,
-        text: ran.text,
-        is_done: ran.is_drained,
+        ending: Ending::Text {
+            text: ran.text,
+            is_done: ran.is_drained,
+        },
     })
 }
 

@@ -1,5 +1,5 @@
 //! What follows from the definitions of the verdict alone: each call does nothing, and its contract is a law.
-ghost use Rattle.df_commands.specs.Laws.{AcceptedSourcesBindNewNames, AcceptedSourcesKeepTheirDemands, CellFilesHaveOneReading, CellFilesHaveReadings, CellsOfSourcesAreGood, CompilationsHaveOneReading, CompilationsHaveReadings, DrainedRunsTellTheMeaning, DualFilesHaveOneReading, DualFilesHaveReadings, HasOneVerdict, HasSomeVerdict, ProgramsHaveOneReading, ProgramsHaveReadings};
+ghost use Rattle.df_commands.specs.Laws.{AcceptedSourcesBindNewNames, AcceptedSourcesKeepTheirDemands, CellFilesHaveOneReading, CellFilesHaveReadings, CellsOfSourcesAreGood, CompilationsHaveOneReading, CompilationsHaveReadings, DrainedRunsTellTheMeaning, DualFilesHaveOneReading, DualFilesHaveReadings, HasOneVerdict, HasSomeVerdict, ProgramsHaveOneReading, ProgramsHaveReadings, TraceFilesHaveOneReading, TraceFilesHaveReadings};
 
 use df_accepted::laws::accepted_sources_are_piped;
 use df_celltext::laws::{has_one_first_wrong_line, is_read_or_wrong, text_tells_the_cells};
@@ -18,6 +18,7 @@ use df_syntax::laws::{
     text_with_tokens_has_no_bad_place, tokens_have_one_answer, tokens_have_some_answer,
     trees_are_well_built,
 };
+use df_trace::laws::{traces_have_one_answer, traces_have_some_answer};
 use df_types::laws::accepted_names_are_new;
 use df_wellformed::laws::{fails_once, refuses_all_bad, refuses_only_bad};
 
@@ -55,6 +56,20 @@ pub fn dual_files_have_readings()
 {
     others_have_wrong_lines();
     others_fail();
+}
+
+/// The text of a trace has the lines of events that are possible at their turns, or is refused by one line, and not both.
+pub fn trace_files_have_one_reading()
+    ensures { TraceFilesHaveOneReading }
+{
+    traces_have_one_answer();
+}
+
+/// The text of a trace has the lines of events that are possible at their turns, or is refused.
+pub fn trace_files_have_readings()
+    ensures { TraceFilesHaveReadings }
+{
+    traces_have_some_answer();
 }
 
 /// The text of a source is that of one accepted tree, or is refused by one line, and not both.
@@ -128,6 +143,7 @@ pub fn has_one_verdict()
     inputs_have_one_reading();
     schedules_have_one_reading();
     cell_files_have_one_reading();
+    trace_files_have_one_reading();
     dual_files_have_one_reading();
     programs_have_one_reading();
     compilations_have_one_reading();
@@ -141,6 +157,7 @@ pub fn has_some_verdict()
     inputs_have_readings();
     schedules_have_readings();
     cell_files_have_readings();
+    trace_files_have_readings();
     dual_files_have_readings();
     programs_have_readings();
     compilations_have_readings();

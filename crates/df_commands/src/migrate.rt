@@ -6,6 +6,7 @@ ghost use Rattle.df_commands.specs.Verdicts.{WriteAnew, JudgesMigrate};
 ghost use Rattle.df_commands.specs.Judged.{Settles};
 
 use crate::cell_files::judge_cells;
+use crate::ending::Ending;
 use crate::plan::{NewFile, Plan};
 use crate::report::migrated;
 use crate::stop::Stop;
@@ -24,8 +25,10 @@ fn planned<'a>(alloc: Global, cells: &Cells, name: &'a String) -> Result<Plan<'a
     files.push(NewFile { name, bytes })?;
     Ok(Plan {
         files,
-        text: migrated(alloc, cells)?,
-        is_done: true,
+        ending: Ending::Text {
+            text: migrated(alloc, cells)?,
+            is_done: true,
+        },
     })
 }
 

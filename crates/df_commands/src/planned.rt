@@ -12,11 +12,14 @@ use crate::command::{Command, Order};
 use crate::compile::compile;
 use crate::eval::eval;
 use crate::go::go;
+use crate::lockstep::lockstep;
 use crate::migrate::migrate;
 use crate::plan::Plan;
 use crate::reads::texts_of;
+use crate::replay::replay;
 use crate::run::run;
 use crate::stop::Stop;
+use crate::trace::trace;
 use crate::verify::verify;
 use df_io::{FileMode, Files};
 use df_values::bytes::Bytes;
@@ -30,7 +33,7 @@ fn plan_of<'a>(
     writes: &'a [String],
 ) -> Result<Plan<'a>, Stop>
     requires texts { length texts.now ≡ length (texts_of command) }
-    requires short { All (λ text. length text ≤ 33_554_432) texts.now }
+    requires short { All (λ text. length text ≤ 67_108_864) texts.now }
     requires writes { length writes.now ≡ written_by command }
     ensures settles { Settles (JudgesTexts command texts.now (map string_bytes writes.now)) result }
     ensures no_fault { IsErrOf result Stop.ReadFault → ⊥ }
@@ -53,8 +56,21 @@ fn plan_of<'a>(
             texts[1].as_slice(),
             texts[2].as_slice(),
         ),
+        Command::Trace => trace(
+            alloc,
+            texts[0].as_slice(),
+            texts[1].as_slice(),
+            texts[2].as_slice(),
+        ),
+        Command::Replay => replay(
+            alloc,
+            texts[0].as_slice(),
+            texts[1].as_slice(),
+            texts[2].as_slice(),
+        ),
         Command::Verify => verify(alloc, texts[0].as_slice(), texts[1].as_slice()),
         Command::Migrate => migrate(alloc, texts[0].as_slice(), &writes[0]),
+        Command::Lockstep => lockstep(alloc, texts[0].as_slice(), texts[1].as_slice()),
     }
 }
 

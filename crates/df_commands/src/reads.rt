@@ -56,7 +56,7 @@ pub fn texts_of<F: Files>(
     ensures gives { IsTrue F.tells → GivesRead (λ texts. texts.items) result
         (texts_at (F.told files.old).holds (map string_bytes names.now) kinds.now) }
     ensures count { IfOk result (λ texts. length texts.items ≡ length kinds.now) }
-    ensures short { IfOk result (λ texts. All (λ text. length text ≤ 33_554_432) texts.items) }
+    ensures short { IfOk result (λ texts. All (λ text. length text ≤ 67_108_864) texts.items) }
     ensures fault { HasReadingCause F.tells (F.faults files.old) (F.faults files.new) result
         (texts_at (F.told files.old).holds (map string_bytes names.now) kinds.now) }
     ensures counts { HasReadCause ⊥ (F.faults files.old) (F.faults files.new) }

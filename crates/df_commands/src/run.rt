@@ -1,10 +1,13 @@
 //! `run`: the cells of a file are run.
-ghost use Rattle.std.specs.Prelude.{◌≤◌, length, IfOk, IsErrOf};
+ghost use Rattle.std.specs.Prelude.{◌≤◌, length, List, IfOk, IsErrOf};
+ghost use Rattle.df_values.specs.declared.values.Value.{Value};
+ghost use Rattle.df_cells.specs.declared.cells.Cell.{Cell};
+ghost use Rattle.df_cells.specs.declared.schedules.Schedule as schedule_meant;
 ghost use Rattle.df_values.specs.Inputs.{AreValid};
 ghost use Rattle.df_cells.specs.Cells.{declarations};
 ghost use Rattle.df_cells.specs.WellFormed.{WellFormed};
 ghost use Rattle.df_commands.specs.Ready.{HasFewChoices};
-ghost use Rattle.df_commands.specs.Verdicts.{RunCells, JudgesRun};
+ghost use Rattle.df_commands.specs.Verdicts.{Task, JudgesCells, JudgesRun};
 ghost use Rattle.df_commands.specs.Judged.{Finds, Settles};
 
 use crate::cell_files::judge_cells;
@@ -15,17 +18,23 @@ use df_cells::cells::Cells;
 use df_celltext::version::Version;
 use std::alloc::Global;
 
-// Cells to be run, with the texts of the run.
+/// Cells to be run, with the texts of the run.
 #[derive(Drop)]
-struct CellsToRun {
-    cells: Cells,
-    texts: RunTexts,
+pub struct CellsToRun {
+    pub cells: Cells,
+    pub texts: RunTexts,
 }
 
-// Judges the texts in their order.
-fn judged(alloc: Global, cells: &[u8], input: &[u8], schedule: &[u8]) -> Result<CellsToRun, Stop>
+/// Judges the texts in their order, whatever the task is that they complete.
+pub fn judged(
+    alloc: Global,
+    cells: &[u8],
+    input: &[u8],
+    schedule: &[u8],
+) -> Result<CellsToRun, Stop>
     requires { length input.now ≤ 4294967294 }
-    ensures finds { Finds (λ run. RunCells run.cells run.texts.inputs.lists run.texts.schedule) (JudgesRun cells.now input.now schedule.now) result }
+    ensures finds { (task : List Cell → List (List Value) → schedule_meant.Schedule → Task)
+        → Finds (λ run. task run.cells run.texts.inputs.lists run.texts.schedule) (JudgesCells cells.now input.now schedule.now task) result }
     ensures no_fault { IsErrOf result Stop.ReadFault → ⊥ }
     ensures well_formed { IfOk result (λ run. WellFormed run.cells) }
     ensures valid { IfOk result (λ run. AreValid (declarations run.cells) run.texts.inputs.lists) }

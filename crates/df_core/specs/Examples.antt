@@ -1,5 +1,5 @@
 -- Small flat programs, with the results that they mean.
-use Rattle.std.specs.Prelude.{ℕ, zero, suc, pos, negsuc, List, [], ◌∷◌, Some, true}
+use Rattle.std.specs.Prelude.{ℕ, zero, suc, pos, negsuc, List, [], ◌∷◌, Some, None, true}
 use Rattle.df_values.specs.declared.kinds.Op.TheVariants as op
 use Rattle.df_values.specs.declared.kinds.Rel.TheVariants as rel
 use Rattle.df_values.specs.declared.kinds.Binary.TheVariants.{Operation, Comparison}
@@ -9,6 +9,7 @@ use Rattle.df_values.specs.declared.values.Value.{Value}
 use Rattle.df_values.specs.declared.values.Value.TheVariants.{Int, Error}
 use Rattle.df_values.specs.declared.values.ErrorValue.TheVariants as fault
 use Rattle.df_values.specs.declared.values.Basic.TheVariants as basic
+use Rattle.df_partial.specs.Members.{Member}
 use Rattle.df_core.specs.declared.terms.Term.{Term}
 use Rattle.df_core.specs.declared.terms.Term.TheVariants as t
 use Rattle.df_core.specs.declared.flat.Body.{Body}
@@ -77,6 +78,33 @@ called_inputs = (Int (pos 1) ∷ Int (pos 2) ∷ Int (pos 7) ∷ []) ∷ []
 
 abbrev pub called_results : List (List Value)
 called_results = (Int (pos 3) ∷ Int (pos 3) ∷ Int (pos 7) ∷ []) ∷ []
+
+-- for x := 0; s := 0 do if x < A[i] then iter x := x + 1; s := s + x enditer else s endif endfor, in an array over [1, 3]: all names
+-- are assigned at once, so s sums up the numbers below A[i]
+abbrev pub below : Flat
+below = alone (body.Construct (pos 1) 3 (t.Loop (number 0) (number 0 ∷ [])
+    (t.Chain (t.Local 0) (record { with = Comparison rel.Lt; operand = t.Element 0 (pos 0) } ∷ []))
+    (record { name = 0; value = t.Chain (t.Local 0) (record { with = Operation op.Add; operand = number 1 } ∷ []) }
+    ∷ record { name = 1; value = t.Chain (t.Local 1) (record { with = Operation op.Add; operand = t.Local 0 } ∷ []) } ∷ [])
+    (t.Local 1)))
+
+-- seven turns are as many as the last element makes
+abbrev pub below_results : List (List Member)
+below_results = (Some (Int (pos 0)) ∷ Some (Int (pos 1)) ∷ Some (Int (pos 21)) ∷ []) ∷ []
+
+-- six are not
+abbrev pub cut_results : List (List Member)
+cut_results = (Some (Int (pos 0)) ∷ Some (Int (pos 1)) ∷ None ∷ []) ∷ []
+
+-- a loop that assigns to one name twice, and to one that isn't there
+abbrev pub assigned_twice : Flat
+assigned_twice = alone (body.Scalar (t.Loop (number 5) []
+    (t.Chain (t.Local 0) (record { with = Comparison rel.Gt; operand = number 3 } ∷ []))
+    (record { name = 0; value = number 7 } ∷ record { name = 0; value = number 2 } ∷ record { name = 9; value = number 8 } ∷ [])
+    (t.Local 0)))
+
+abbrev pub assigned_results : List (List Member)
+assigned_results = (Some (Int (pos 2)) ∷ []) ∷ []
 
 -- numbers that name nothing, operands of the wrong type, and a fold of nothing
 abbrev pub wild : Flat

@@ -51,6 +51,22 @@ pub enum Term {
         definitions: Items<Term>,
         value: Boxed<Term>,
     },
+    /// Names whose values change from turn to turn, all at once.
+    ///
+    /// The names are locals behind those that were bound before: the first, and then the others in order. There is always one.
+    /// The lists are boxed so that a term is no larger than a chain.
+    Loop {
+        /// What the first name stands for at first.
+        first: Boxed<Term>,
+        /// What each other name stands for at first, which sees the names before its own.
+        more: Boxed<Items<Term>>,
+        /// Whether there is one turn more.
+        test: Boxed<Term>,
+        /// What some names stand for after a turn. Of two assignments to one name the later one counts.
+        next: Boxed<Items<Assignment>>,
+        /// What the loop gives when there is no turn more.
+        last: Boxed<Term>,
+    },
 }
 
 /// What joins, and its right operand.
@@ -70,5 +86,15 @@ pub struct Branch {
     /// What is tested.
     pub test: Term,
     /// The value where the test holds.
+    pub value: Term,
+}
+
+/// What a name of a loop stands for after a turn.
+#[cycle(term)]
+#[derive(Drop)]
+pub struct Assignment {
+    /// The place of the name among those of the loop. One past the last names nothing.
+    pub name: usize,
+    /// The value, under what the names stood for before the turn.
     pub value: Term,
 }

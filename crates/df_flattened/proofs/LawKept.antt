@@ -20,8 +20,7 @@ use Rattle.df_syntax.specs.declared.program.Function.{Function}
 use Rattle.df_syntax.specs.Meaning.{Name, Env, calls}
 use Rattle.df_syntax.specs.BlockMeaning as from
 use Rattle.df_syntax.specs.WellShaped.{Around, Known, Offset, when, IsPlace, body_sort, blocks_fit, with_some, input_sort, type_of, is_of, operand_type, has_first, elem_type, recurrence_type}
-use Rattle.df_core.specs.declared.made.Made.{Made}
-use Rattle.df_core.specs.declared.made.Made.TheVariants.{Single, Many}
+use Rattle.df_core.specs.Meaning.{Made, Single, Many}
 use Rattle.df_core.specs.declared.terms.Term.{Term}
 use Rattle.df_core.specs.Meaning as to
 use Rattle.df_flattened.specs.Flattened.{Standing, Scope, Bodies, flatten, bodies, body_flattened, standing_of, bind_some, inputs_bound, input_standing}

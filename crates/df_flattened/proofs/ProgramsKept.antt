@@ -13,8 +13,7 @@ use Rattle.df_syntax.specs.declared.piped.Outcome.TheVariants as outcome
 use Rattle.df_syntax.specs.declared.piped.Piped.{Piped}
 use Rattle.df_syntax.specs.Meaning.{Env, calls}
 use Rattle.df_syntax.specs.BlockMeaning as from
-use Rattle.df_core.specs.declared.made.Made.{Made}
-use Rattle.df_core.specs.declared.made.Made.TheVariants.{Single, Many}
+use Rattle.df_core.specs.Meaning.{Made, Single, Many}
 use Rattle.df_core.specs.declared.terms.Term.{Term}
 use Rattle.df_values.specs.declared.inputs.Extent.{Extent}
 use Rattle.df_values.specs.declared.inputs.Input.{Input}

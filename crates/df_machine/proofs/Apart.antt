@@ -1,5 +1,5 @@
 -- No two packets in flight have one name: a cell has one firing under way, and one packet is on an arc.
-use Rattle.std.proofs.Common.{◌≡◌, ◌≢◌, ℕ, suc, ◌+◌, ◌*◌, ◌<◌, ◌≤◌, Bool, true, false, cond, List, [], ◌∷◌, length, Option, Some, None, refl, sym, ◌∙◌, ap, subst, arith}
+use Rattle.std.proofs.Common.{◌≡◌, ◌≢◌, ℕ, suc, ◌+◌, ◌-◌, ◌%◌, ◌*◌, ◌<◌, ◌≤◌, Bool, true, false, cond, List, [], ◌∷◌, length, Option, Some, None, refl, sym, ◌∙◌, ap, subst, arith}
 use Rattle.std.specs.Prelude.{slice_get}
 use Rattle.std.specs.List.{count_by, AllByRecursion}
 use Rattle.std.proofs.lemmas.List.Sums.{sum_by-cons}
@@ -11,8 +11,12 @@ use Rattle.df_cells.specs.Cells.{same_port, port_of, producer_of}
 use Rattle.df_machine.specs.declared.packets.Packet.{Packet}
 use Rattle.df_machine.specs.declared.packets.Packet.TheVariants.{Operation, Operand, Acknowledgement}
 use Rattle.df_machine.specs.CanRun.{CanRun}
-use Rattle.df_machine.specs.Events.{event_of}
-use Rattle.df_machine.specs.Flights.{name_of, AreApart, Fits}
+use Rattle.df_machine.specs.declared.packets.Event.{Event}
+use Rattle.df_machine.specs.declared.packets.Event.TheVariants.{Fire}
+use Rattle.df_machine.specs.Events.{enabled, possible, event_of, event_from, event_at, chosen_event}
+use Rattle.df_machine.specs.Laws.{IsOfCells}
+use Rattle.df_machine.proofs.SoundRuns.{enabled_at}
+use Rattle.df_machine.specs.Flights.{packet_name, AreApart, Fits}
 use Rattle.df_machine.specs.Sound.{bit, is_operation, is_on, tokens, room_from, Sound}
 use Rattle.df_machine.specs.States.{State, is_busy}
 use Rattle.df_machine.proofs.Counts.{bit-le, same_port-refl}
@@ -43,7 +47,7 @@ same_from_name d e a b n =
     ap (λ i. port_of i d.port.0) c ∙ ap (λ q. port_of e.cell.0 q) p
 
 apart_firing : (n c : ℕ) (packets : List Packet) → count_by (is_operation c) packets ≤ 0 → AllByRecursion (IsPlaced n) packets
-    → AllByRecursion (λ other. name_of (event_of other) ≢ 4 * c) packets
+    → AllByRecursion (λ other. packet_name other ≢ 4 * c) packets
 apart_firing n c [] none placed = tt
 apart_firing n c (Operation e x ∷ packets) none placed =
     let l = sum_by-cons (λ q. bit (is_operation c q)) (Operation e x) packets in (
@@ -58,7 +62,7 @@ apart_firing n c (Acknowledgement d ∷ packets) none placed =
     (λ same. absurd (omega arith), apart_firing n c packets (omega arith) placed.1)
 
 apart_arc : (n : ℕ) (d : Dest) (packets : List Packet) → d.port.0 < 3 → count_by (is_on d) packets ≤ 0 → AllByRecursion (IsPlaced n) packets
-    → AllByRecursion (λ other. name_of (event_of other) ≢ 4 * d.cell.0 + 1 + d.port.0) packets
+    → AllByRecursion (λ other. packet_name other ≢ 4 * d.cell.0 + 1 + d.port.0) packets
 apart_arc n d [] port none placed = tt
 apart_arc n d (Operation e x ∷ packets) port none placed =
     let l = sum_by-cons (λ q. bit (is_on d q)) (Operation e x) packets in
@@ -86,7 +90,7 @@ apart_few n (Acknowledgement d ∷ packets) few placed =
     let l = sum_by-cons (λ q. bit (is_on d q)) (Acknowledgement d) packets in let m = few.arcs d in let one = ap bit (same_port-refl d) in
     (apart_arc n d packets placed.0.1 (omega arith) placed.1, apart_few n packets (few_behind (Acknowledgement d) packets few) placed.1)
 
-within_placed : (n : ℕ) (packets : List Packet) → AllByRecursion (IsPlaced n) packets → AllByRecursion (λ packet. name_of (event_of packet) < 4 * n) packets
+within_placed : (n : ℕ) (packets : List Packet) → AllByRecursion (IsPlaced n) packets → AllByRecursion (λ packet. packet_name packet < 4 * n) packets
 within_placed n [] placed = tt
 within_placed n (Operation c x ∷ packets) placed = (let a = placed.0 in omega arith, within_placed n packets placed.1)
 within_placed n (Operand d v ∷ packets) placed = (let a = placed.0.0 in let b = placed.0.1 in omega arith, within_placed n packets placed.1)
@@ -102,6 +106,25 @@ placed_at cells s i (Operand d v) w sound at =
 placed_at cells s i (Acknowledgement d) w sound at =
     let here = on_arc cells s i (Acknowledgement d) d sound at (same_port-refl d) in let fed = fed_within cells d here.1.0 here.1.1 in
     (fed.0, let p = ports-le cells w d.cell.0 in let q = fed.1 in omega arith)
+
+-- the event of a packet, and of a cell or a packet
+of_packet : (n : ℕ) (p : Packet) → IsPlaced n p → IsOfCells n (event_of p)
+of_packet n (Operation c x) placed = placed
+of_packet n (Operand d v) placed = placed
+of_packet n (Acknowledgement d) placed = placed
+
+of_either : (n : ℕ) (cell : Option ℕ) (packet : Option Packet) (event : Event) → ((c : ℕ) → cell ≡ Some c → c < n) → ((p : Packet) → packet ≡ Some p → IsPlaced n p)
+    → event_from cell packet ≡ Some event → IsOfCells n event
+of_either n (Some c) packet event within placed is = subst (IsOfCells n) (let e : Fire (record { 0 = c }) ≡ event = cc in e) (within c refl)
+of_either n None (Some p) event within placed is = subst (IsOfCells n) (let e : event_of p ≡ event = cc in e) (of_packet n p (placed p refl))
+of_either n None None event within placed is = cc
+
+pub event_placed : (cells : List Cell) (s : State) (k : ℕ) (event : Event) → CanRun cells → Sound cells s → chosen_event cells s k ≡ Some event → IsOfCells (length cells) event
+unfolding chosen_event event_at
+event_placed cells s k event w sound is =
+    let m = k % possible cells s in let i = m - length (enabled cells s) in
+    of_either (length cells) (slice_get (enabled cells s) m) (slice_get s.packets i) event
+    (λ c at. (enabled_at cells s m c at).0) (λ p at. placed_at cells s i p w sound at) is
 
 all_by_places : {A : Type 0} (P : A → Type 0) (xs : List A) → ((i : ℕ) (x : A) → slice_get xs i ≡ Some x → P x) → AllByRecursion P xs
 all_by_places P [] each = tt

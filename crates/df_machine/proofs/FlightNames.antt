@@ -9,9 +9,9 @@ use Rattle.slab.specs.Slab.{Slab, get, slab_len, ContainsKey, Updates}
 use Rattle.df_cells.specs.Cells.{port_of}
 use Rattle.df_machine.specs.declared.packets.Packet.{Packet}
 use Rattle.df_machine.specs.declared.packets.Packet.TheVariants.{Acknowledgement}
-use Rattle.df_machine.specs.declared.packets.Event.{Event}
-use Rattle.df_machine.specs.Events.{event_of}
-use Rattle.df_machine.specs.Flights.{packet_under, AreKeys, KeepsFlight, HasAll, IsNamed, AreApart, Fits, name_of}
+use Rattle.df_machine.specs.declared.packets.Action.{Action}
+use Rattle.df_machine.specs.Events.{event_of, action_of}
+use Rattle.df_machine.specs.Flights.{packet_under, AreKeys, KeepsFlight, HasAll, IsNamed, AreApart, Fits, name_of, packet_name}
 use Rattle.df_machine.specs.InOrder.{InOrder}
 use Rattle.df_machine.proofs.FlightKeys.{AreOthers, fresh, other_there, others_behind, one_packet_more, one_packet_less}
 
@@ -23,24 +23,24 @@ all_before P (x ∷ xs) ys all = (all.0, all_before P xs ys all.1)
 
 apart_before : (xs ys : List Packet) → AreApart (xs ++ ys) → AreApart xs
 apart_before [] ys apart = tt
-apart_before (x ∷ xs) ys apart = (all_before (λ other. name_of (event_of other) ≢ name_of (event_of x)) xs ys apart.0, apart_before xs ys apart.1)
+apart_before (x ∷ xs) ys apart = (all_before (λ other. packet_name other ≢ packet_name x) xs ys apart.0, apart_before xs ys apart.1)
 
 pub fits_before : (names : ℕ) (xs ys : List Packet) → Fits names (xs ++ ys) → Fits names xs
 fits_before names xs ys fits = record {
   apart = apart_before xs ys fits.apart;
-  within = all_before (λ packet. name_of (event_of packet) < names) xs ys fits.within;
+  within = all_before (λ packet. packet_name packet < names) xs ys fits.within;
 }
 
 all_last : {A : Type 0} (P : A → Type 0) (xs : List A) (y : A) → AllByRecursion P (xs ++ y ∷ []) → P y
 all_last P [] y all = all.0
 all_last P (x ∷ xs) y all = all_last P xs y all.1
 
-last_apart : (xs : List Packet) (y : Packet) → AreApart (xs ++ y ∷ []) → AllByRecursion (λ other. name_of (event_of other) ≢ name_of (event_of y)) xs
+last_apart : (xs : List Packet) (y : Packet) → AreApart (xs ++ y ∷ []) → AllByRecursion (λ other. packet_name other ≢ packet_name y) xs
 last_apart [] y apart = tt
-last_apart (x ∷ xs) y apart = (λ e. all_last (λ other. name_of (event_of other) ≢ name_of (event_of x)) xs y apart.0 (sym e), last_apart xs y apart.1)
+last_apart (x ∷ xs) y apart = (λ e. all_last (λ other. packet_name other ≢ packet_name x) xs y apart.0 (sym e), last_apart xs y apart.1)
 
-pub last_within : (names : ℕ) (xs : List Packet) (y : Packet) → Fits names (xs ++ y ∷ []) → name_of (event_of y) < names
-last_within names xs y fits = all_last (λ packet. name_of (event_of packet) < names) xs y fits.within
+pub last_within : (names : ℕ) (xs : List Packet) (y : Packet) → Fits names (xs ++ y ∷ []) → packet_name y < names
+last_within names xs y fits = all_last (λ packet. packet_name packet < names) xs y fits.within
 
 -- ---- names
 
@@ -52,15 +52,15 @@ named_kept : (old new : Slab Packet) (key : ℕ) (slot : Option Packet) (names k
 named_kept old new key slot names [] w others named = tt
 named_kept old new key slot names (k ∷ keys) w others named =
     let same = sym (same_under old new key k slot w others.0) in (
-      subst (λ p. (name_of (event_of p) < length names) × (get_or names (name_of (event_of p)) 0 ≡ k)) same named.0,
+      subst (λ p. (packet_name p < length names) × (get_or names (packet_name p) 0 ≡ k)) same named.0,
       named_kept old new key slot names keys w others.1 named.1,
     )
 
-named_other : (packets : Slab Packet) (names : List ℕ) (n key : ℕ) (keys : List ℕ) → AllByRecursion (λ other. name_of (event_of other) ≢ n) (map (packet_under packets) keys)
+named_other : (packets : Slab Packet) (names : List ℕ) (n key : ℕ) (keys : List ℕ) → AllByRecursion (λ other. packet_name other ≢ n) (map (packet_under packets) keys)
     → AllByRecursion (IsNamed packets names) keys → AllByRecursion (IsNamed packets (set names n key)) keys
 named_other packets names n key [] apart named = tt
 named_other packets names n key (k ∷ keys) apart named =
-    let m = name_of (event_of (packet_under packets k)) in let long = length-set names n key in let within = named.0.0 in (
+    let m = packet_name (packet_under packets k) in let long = length-set names n key in let within = named.0.0 in (
       (omega arith, get_or-set_other names n m key 0 apart.0 ∙ named.0.1),
       named_other packets names n key keys apart.1 named.1,
     )
@@ -118,9 +118,9 @@ key_fresh packets keys key vacant used i at = other_there key keys i key (fresh 
 
 pub flight_more : (old new : Slab Packet) (keys more : InOrder) (names : List ℕ) (room key : ℕ) (packet : Packet) → KeepsFlight old keys names room → length keys.keys < room → get old key ≡ None
     → more.keys ≡ keys.keys ++ key ∷ [] → more.room ≡ keys.room → more.span ≡ keys.span → Updates old new key (Some packet) → slab_len new ≡ slab_len old + 1 → new.capacity ≡ old.capacity
-    → Fits (length names) (map (packet_under old) keys.keys ++ packet ∷ []) → KeepsFlight new more (set names (name_of (event_of packet)) key) room
+    → Fits (length names) (map (packet_under old) keys.keys ++ packet ∷ []) → KeepsFlight new more (set names (packet_name packet) key) room
 flight_more old new keys more names room key packet w free vacant is room' span updates len capacity fits =
-    let n = name_of (event_of packet) in let a = w.span in let p = w.kept.keys_room in
+    let n = packet_name packet in let a = w.span in let p = w.kept.keys_room in
     let others = fresh old key keys.keys vacant w.kept.used in
     let under : packet_under new key ≡ packet = ap (λ o. unwrap_or o (Acknowledgement (port_of 0 0))) updates.changed in
     let within : n < length names = last_within (length names) (map (packet_under old) keys.keys) packet fits in
@@ -128,7 +128,7 @@ flight_more old new keys more names room key packet w free vacant is room' span 
     let before = named_other old names n key keys.keys (last_apart (map (packet_under old) keys.keys) packet fits.apart) w.named in
     let kept = named_kept old new key (Some packet) (set names n key) keys.keys updates others before in
     let last : IsNamed new (set names n key) key =
-    subst (λ p. (name_of (event_of p) < length (set names n key)) × (get_or (set names n key) (name_of (event_of p)) 0 ≡ key)) (sym under) (omega arith, get_or-set_same names n key 0 within) in
+    subst (λ p. (packet_name p < length (set names n key)) × (get_or (set names n key) (packet_name p) 0 ≡ key)) (sym under) (omega arith, get_or-set_same names n key 0 within) in
     record {
       kept = one_packet_more old new keys.keys more.keys keys.room more.room room key packet w.kept free vacant is updates len capacity (omega arith);
       span = omega arith;
@@ -149,21 +149,21 @@ flight_less old new keys left names room i key w at is room' span updates len ca
 
 -- ---- what a name finds
 
-pub absent_past : (packets : Slab Packet) (names keys : List ℕ) (event : Event) → length names ≤ name_of event → AllByRecursion (IsNamed packets names) keys
-    → AllByRecursion (λ packet. event_of packet ≢ event) (map (packet_under packets) keys)
-absent_past packets names [] event past named = tt
-absent_past packets names (k ∷ keys) event past named =
-    (λ e. let n = ap name_of e in let within = named.0.0 in absurd (omega arith), absent_past packets names keys event past named.1)
+pub absent_past : (packets : Slab Packet) (names keys : List ℕ) (action : Action) → length names ≤ name_of action → AllByRecursion (IsNamed packets names) keys
+    → AllByRecursion (λ packet. action_of (event_of packet) ≢ action) (map (packet_under packets) keys)
+absent_past packets names [] action past named = tt
+absent_past packets names (k ∷ keys) action past named =
+    (λ e. let n = ap name_of e in let within = named.0.0 in absurd (omega arith), absent_past packets names keys action past named.1)
 
-pub absent : (packets : Slab Packet) (names keys : List ℕ) (event : Event) (key : ℕ) → key ≡ get_or names (name_of event) 0
-    → (ContainsKey packets key → event_of (packet_under packets key) ≡ event → ⊥) → AreKeys packets keys → AllByRecursion (IsNamed packets names) keys
-    → AllByRecursion (λ packet. event_of packet ≢ event) (map (packet_under packets) keys)
-absent packets names [] event key is never used named = tt
-absent packets names (k ∷ keys) event key is never used named = (
+pub absent : (packets : Slab Packet) (names keys : List ℕ) (action : Action) (key : ℕ) → key ≡ get_or names (name_of action) 0
+    → (ContainsKey packets key → action_of (event_of (packet_under packets key)) ≡ action → ⊥) → AreKeys packets keys → AllByRecursion (IsNamed packets names) keys
+    → AllByRecursion (λ packet. action_of (event_of packet) ≢ action) (map (packet_under packets) keys)
+absent packets names [] action key is never used named = tt
+absent packets names (k ∷ keys) action key is never used named = (
   λ e.
       let same : k ≡ key = sym named.0.1 ∙ ap (λ x. get_or names (name_of x) 0) e ∙ sym is in
-      never (subst (λ j. ContainsKey packets j) same used.0) (subst (λ j. event_of (packet_under packets j) ≡ event) same e),
-  absent packets names keys event key is never used.2 named.1,
+      never (subst (λ j. ContainsKey packets j) same used.0) (subst (λ j. action_of (event_of (packet_under packets j)) ≡ action) same e),
+  absent packets names keys action key is never used.2 named.1,
 )
 
 -- ---- packets that are sent one after the other

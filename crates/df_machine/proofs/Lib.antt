@@ -1,4 +1,5 @@
 pub mod Counts
+pub mod RunEnds
 pub mod FlightKeys
 pub mod FlightNames
 pub mod Places
@@ -22,6 +23,7 @@ pub mod ToldRuns
 pub mod Steps
 pub mod Looks
 pub mod PlaceOf
+pub mod OnePlace
 pub mod Drained
 pub mod ThreeCellsRun
 pub mod Starts

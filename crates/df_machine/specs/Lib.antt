@@ -1,4 +1,5 @@
 pub mod CanRun
+pub mod RunEnds
 pub mod Flights
 pub mod States
 pub mod Events

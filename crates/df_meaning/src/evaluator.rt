@@ -5,7 +5,8 @@ ghost use Rattle.df_syntax.specs.BlockMeaning.{mean};
 ghost use Rattle.df_syntax.specs.WellShaped.{IsPiped};
 ghost use Rattle.df_inline.specs.Sizes.{piped_size};
 
-use df_core::evaluator::evaluate;
+use df_core::evaluator::{TURNS, evaluate};
+use df_core::laws::results_are_whole_without_loops;
 use df_flattened::laws::{lowered_programs_are_flat, lowering_keeps_the_meaning};
 use df_inline::{InlineAnswer, inline};
 use df_syntax::piped::Piped;
@@ -28,8 +29,9 @@ pub fn eval(alloc: Global, piped: &Piped, inputs: &Streams) -> Result<Streams, M
 {
     lowering_keeps_the_meaning();
     lowered_programs_are_flat();
+    results_are_whole_without_loops();
     match inline(alloc, piped) {
-        Ok(flat) => evaluate(alloc, &flat, inputs),
+        Ok(flat) => evaluate(alloc, &flat, inputs, TURNS),
         Err(InlineAnswer::Memory) => Err(Memory),
         Err(InlineAnswer::TooLarge | InlineAnswer::TooTall) => unreachable!(),
     }

@@ -26,11 +26,9 @@ use Rattle.df_build_loops.specs.Frames.{undef}
 use Rattle.df_build_cond.specs.Growth.{whole, Stood, Grown}
 use Rattle.df_build_cond.specs.Gates.{patterned}
 use Rattle.df_build_elem.specs.Blocks.{Placed, turns_of, as_array, as_scalar, grown_by, element, alone, listed, constructed, folded_from, folded_first, folded_by, folded, recurred, placed, shown}
-use Rattle.df_core.specs.Meaning.{begun, or_undef, folded_more, value_at, value_alone, members, last_grown, before, made_by, with_block, scalar_of}
+use Rattle.df_core.specs.Meaning.{Made, Single, Many, begun, or_undef, folded_more, value_at, value_alone, members, last_grown, before, made_by, with_block, scalar_of}
 use Rattle.df_build_elem.specs.Program.{laid_block}
 use Rattle.df_meant.specs.Sites.{Ends, Label, Site, site_of, stream, Stands, Gives, Meeting, Extends, block_turns}
-use Rattle.df_core.specs.declared.made.Made.{Made}
-use Rattle.df_core.specs.declared.made.Made.TheVariants.{Single, Many}
 use Rattle.df_meant.specs.Windows.{lesser}
 use Rattle.df_meant.specs.Builds.{OutsideStands, Fits}
 use Rattle.df_meant.specs.SameGraph.{no_open}

@@ -19,8 +19,7 @@ use Rattle.df_build_terms.specs.declared.building.Outside.TheVariants as outside
 use Rattle.df_labels.specs.declared.graphs.Flow.TheVariants.{Constant, Cell}
 use Rattle.df_build_terms.specs.Outer.{single, many}
 use Rattle.df_meant.specs.Sites.{given_of, Ends, Given, Label, Site, site_of, pattern_at, pattern_from, pattern_of, delayed, stream, Comes, Gives, Stands, values_in, MeetsNode, Meeting, block_turns}
-use Rattle.df_core.specs.declared.made.Made.{Made}
-use Rattle.df_core.specs.Meaning.{scalar_of}
+use Rattle.df_core.specs.Meaning.{Made, scalar_of}
 use Rattle.df_meant.specs.Builds.{IsShaped, Fits}
 use Rattle.df_meant.specs.SameGraph.{no_open}
 use Rattle.df_meant.proofs.Groups.{same_some, none_some}

@@ -7,8 +7,7 @@ use Rattle.df_build_loops.specs.Frames.{undef}
 use Rattle.df_build_terms.specs.Building.{begun}
 use Rattle.df_build_elem.specs.Blocks.{element, turns_of}
 use Rattle.df_meant.specs.Sites.{Ends, Label, site_of, Meeting}
-use Rattle.df_core.specs.declared.made.Made.{Made}
-use Rattle.df_core.specs.Meaning.{term_value}
+use Rattle.df_core.specs.Meaning.{Made, term_value}
 use Rattle.df_build_cond.specs.Growth.{whole}
 use Rattle.df_meant.specs.Builds.{Block, all_of, here_in, Fits, FrameStands}
 use Rattle.df_labels.specs.Patterns.{PatternsSpell}

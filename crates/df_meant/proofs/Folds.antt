@@ -25,7 +25,6 @@ use Rattle.df_build_loops.specs.Frames.{previous}
 use Rattle.df_build_loops.specs.Folds.{loop_begun, loop_ended}
 use Rattle.df_build_loops.specs.Frames.{closed, last}
 use Rattle.df_meant.specs.Sites.{Ends, Label, site_of, Stands, Gives, Meeting, Extends, block_turns}
-use Rattle.df_core.specs.declared.made.Made.{Made}
 use Rattle.df_meant.specs.Builds.{Fits}
 use Rattle.df_meant.specs.SameGraph.{no_open}
 use Rattle.df_meant.proofs.Streams.{turns_block}
@@ -38,6 +37,7 @@ use Rattle.df_meant.proofs.Windowing.{gate_runs}
 use Rattle.df_meant.proofs.Flat.{ruled_is}
 use Rattle.df_meant.proofs.Frames as frame
 use Rattle.df_meant.proofs.Closing as closing
+use Rattle.df_core.specs.Meaning.{Made}
 
 -- what is joined, so many of the members M after b
 abbrev pub joined_of : Op → Value → (ℕ → Value) → ℕ → Value

@@ -30,8 +30,7 @@ use Rattle.df_build_loops.specs.Holds.{held}
 use Rattle.df_build_access.specs.Elements.{windowed}
 use Rattle.df_meant.specs.Sites.{Given, Label, Site, site_of, stream, Stands, MeetsNode, Meeting, Extends, block_turns}
 use Rattle.df_meant.specs.Arms.{Setting, turns, turns_at, Kept, Known}
-use Rattle.df_core.specs.declared.made.Made.{Made}
-use Rattle.df_core.specs.Meaning.{scalar_of, member_of, made_at}
+use Rattle.df_core.specs.Meaning.{Made, scalar_of, member_of, made_at}
 use Rattle.df_build_cond.specs.Growth.{whole}
 use Rattle.df_meant.specs.Windows.{lesser}
 use Rattle.df_meant.specs.Builds.{Block, all_of, place_in, at_in, ArrayStands, OutsideStands, IsShaped, Fits, Tables, FrameStands, Good, IsBuilt, Builds, HoldsStand, WindowsStand}

@@ -24,6 +24,7 @@ use Rattle.df_values.specs.Tables.{binary_answer, unary_answer}
 use Rattle.df_cells.specs.Families.{kind_of, kind_of_one}
 use Rattle.df_core.specs.Terms.{layer_of, fold_rolled}
 use Rattle.df_core.specs.TermInduction.{Proved, without, term_induction}
+use Rattle.df_build_loops.specs.Frames.{undef}
 use Rattle.df_build_terms.specs.Building.{Building, Built, Make, at, enter, in_arm, joined, changed, chosen as merge_built, decide}
 use Rattle.df_build_cond.specs.Arms.{Arm}
 use Rattle.df_build_terms.specs.Built.{Defined, local_of, chained, choose, defined, form, built}
@@ -234,6 +235,7 @@ module _ (k : Block) where
         after k s b.graph d.state.graph labels q.0 (one value.0 d.locals d.state) (λ t. term_value value.0 (here_in k t) (fold (defined_value (here_in k t)) (env fs t) (map term_value terms))) q.2
         (same_built k s d.state.graph q.0 (one value.0 d.locals d.state) (λ t. term_value value.0 (here_in k t) (env q.1 t)) _
         (λ t. ap (term_value value.0 (here_in k t)) (q.5 t)) (value.1 d.locals q.1 d.state s q.0 q.4 q.3))
+    form_ok (Term-F.Loop first more test next last) locals fs b s labels known good = constant_ok k undef locals fs b s labels known good
 
 pub terms_are_meant : PatternsSpell → TermsAreMeant
 unfolding built term_value

@@ -17,8 +17,7 @@ use Rattle.df_build_elem.specs.Blocks.{element, grown_by}
 use Rattle.df_build_loops.specs.Frames.{closed}
 use Rattle.df_meant.specs.Windows.{lesser}
 use Rattle.df_meant.specs.Sites.{Ends, Label, site_of, Stands, Gives, Meeting, Extends, block_turns}
-use Rattle.df_core.specs.declared.made.Made.{Made}
-use Rattle.df_core.specs.Meaning.{term_value, value_alone, last_grown}
+use Rattle.df_core.specs.Meaning.{Made, term_value, value_alone, last_grown}
 use Rattle.df_meant.specs.Builds.{Block, here_in, Fits}
 use Rattle.df_meant.specs.SameGraph.{no_open}
 use Rattle.df_meant.proofs.Groups.{extends_both, stands_more, stands_same}

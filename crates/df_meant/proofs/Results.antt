@@ -15,10 +15,8 @@ use Rattle.df_build_terms.specs.declared.building.Outside.TheVariants as outside
 use Rattle.df_build_elem.specs.Blocks.{listed}
 use Rattle.df_build_elem.specs.Program.{result_of, result_more}
 use Rattle.df_meant.specs.Sites.{Ends, given_of, Label, Site, site_of, side_of, stream, Gives, Meeting, Extends, block_turns}
-use Rattle.df_core.specs.declared.made.Made.{Made}
 use Rattle.df_meant.specs.Senses.{members_of}
-use Rattle.df_core.specs.Meaning.{values_of, values_of}
-use Rattle.df_core.specs.declared.made.Made.{Made}
+use Rattle.df_core.specs.Meaning.{Made, values_of, values_of}
 use Rattle.df_core.specs.Meaning.{scalar_of, made_at}
 use Rattle.df_build_cond.specs.Growth.{whole}
 use Rattle.df_meant.specs.Builds.{OutsideStands, Fits}

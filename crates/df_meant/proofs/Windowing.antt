@@ -28,9 +28,7 @@ use Rattle.df_build_access.specs.Windows.{window_with, window_by}
 use borrow.Author.Differences.{up, down}
 use Rattle.df_meant.specs.Sites.{Ends, Label, Site, site_of, pattern_at, pattern_of, side_of, delayed, stream, Comes, Gives, Stands, MeetsNode, Meeting, Extends, block_turns}
 use Rattle.df_meant.specs.Senses.{lowest_of, members_of}
-use Rattle.df_core.specs.declared.made.Made.{Made}
-use Rattle.df_core.specs.declared.made.Made.TheVariants.{Single, Many}
-use Rattle.df_core.specs.Meaning.{member_of}
+use Rattle.df_core.specs.Meaning.{Made, Single, Many, member_of}
 use Rattle.df_labels.specs.Patterns.{pattern, PatternsSpell}
 use Rattle.df_meant.specs.Windows.{lesser}
 use Rattle.df_meant.proofs.Flat.{ruled_is}

@@ -1,8 +1,7 @@
 -- What it is for blocks to be built to what they mean.
 use Rattle.std.specs.Prelude.{List, fold}
 use Rattle.df_core.specs.declared.flat.Block.{Block}
-use Rattle.df_core.specs.declared.made.Made.{Made}
-use Rattle.df_core.specs.Meaning.{with_block}
+use Rattle.df_core.specs.Meaning.{Made, with_block}
 use Rattle.df_build_cond.specs.Growth.{whole}
 use Rattle.df_build_elem.specs.Program.{Laid, laid_block}
 use Rattle.df_meant.specs.Sites.{Ends, Label, site_of, Meeting}

@@ -22,9 +22,7 @@ use Rattle.df_build_terms.specs.Built.{built}
 use Rattle.df_meant.specs.Sites.{Ends, Label, Site, site_of, stream, Gives, Stands, Meeting, Extends, block_turns}
 use Rattle.df_meant.specs.Arms.{Setting, turns, ArmsHold, Known}
 use Rattle.df_meant.specs.Senses.{lowest_of, members_of}
-use Rattle.df_core.specs.declared.made.Made.{Made}
-use Rattle.df_core.specs.declared.made.Made.TheVariants.{Single, Many}
-use Rattle.df_core.specs.Meaning.{Here, Sense, scalar_of, member_of, made_at, term_value}
+use Rattle.df_core.specs.Meaning.{Made, Single, Many, Here, Sense, scalar_of, member_of, made_at, term_value}
 use Rattle.df_build_cond.specs.Growth.{whole}
 use Rattle.df_meant.specs.Windows.{lesser}
 

@@ -1,8 +1,7 @@
 -- What parameters and blocks are, as arrays.
 use Rattle.std.specs.Prelude.{ℤ, pos, List, []}
 use Rattle.df_values.specs.declared.values.Value.{Value}
-use Rattle.df_core.specs.declared.made.Made.{Made}
-use Rattle.df_core.specs.declared.made.Made.TheVariants.{Single, Many}
+use Rattle.df_core.specs.Meaning.{Made, Single, Many}
 
 -- the lowest index; a value has no members
 abbrev pub lowest_of : Made → ℤ

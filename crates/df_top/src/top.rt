@@ -11,6 +11,7 @@ ghost use Rattle.df_top.specs.Carried.{StandsFor, IsCarriedOut, ended};
 use crate::status::Status;
 use crate::writes::write_files;
 use df_commands::command::{Order, order_of};
+use df_commands::ending::say;
 use df_commands::laws::has_one_verdict;
 use df_commands::plan::Plan;
 use df_commands::planned::plan_for;
@@ -31,11 +32,11 @@ fn ended(written: Result<(), Fault>, status: Status) -> Status
     }
 }
 
-// Makes the files, and then writes the text.
-fn carry_out<F: Files, K: Sink>(files: &mut F, out: &mut K, plan: &Plan<'_>) -> Status
+// Makes the files, and then writes what goes to the sink.
+fn carry_out<F: Files, K: Sink>(files: &mut F, out: &mut K, plan: Plan<'_>) -> Status
     requires { F.mode files.old ≡ FileMode.Idle }
     ensures mode { F.mode files.new ≡ FileMode.Idle }
-    ensures stands { IsTrue F.tells → StandsFor (effect_of plan.now) result (IsTrue K.tells)
+    ensures stands { IsTrue F.tells → StandsFor (effect_of plan.entry) result (IsTrue K.tells)
         (record { holds = (F.told files.old).holds; written = K.written out.old })
         (record { holds = (F.told files.new).holds; written = K.written out.new }) }
     ensures no_other { IsCarriedOut result }
@@ -44,15 +45,17 @@ fn carry_out<F: Files, K: Sink>(files: &mut F, out: &mut K, plan: &Plan<'_>) -> 
     ensures counts { HasWriteCause ⊥ (F.faults files.old) (F.faults files.new) }
     ensures out_counts { HasSinkCause ⊥ (K.faults out.old) (K.faults out.new) }
 {
-    match write_files(files, plan.files.as_slice()) {
-        Ok(()) => {
-            let status = if plan.is_done {
-                Status::Done
-            } else {
-                Status::Stopped
-            };
-            ended(write_out(out, plan.text.as_slice()), status)
-        }
+    let Plan {
+        files: made,
+        ending,
+    } = plan;
+    match write_files(files, made.as_slice()) {
+        Ok(()) => match say(out, ending) {
+            Ok(true) => Status::Done,
+            Ok(false) => Status::Stopped,
+            Err(Fault::Failed) => Status::WriteFault,
+            Err(Fault::Memory) => Status::Memory,
+        },
         Err(Fault::Failed) => Status::WriteFault,
         Err(Fault::Memory) => Status::Memory,
     }
@@ -81,7 +84,7 @@ fn obey<F: Files, K: Sink>(alloc: Global, order: Order<'_>, files: &mut F, out: 
 {
     has_one_verdict();
     match plan_for(alloc, files, order) {
-        Ok(plan) => carry_out(files, out, &plan),
+        Ok(plan) => carry_out(files, out, plan),
         Err(Stop::Refused(line)) => ended(write_out(out, line.as_slice()), Status::Refused),
         Err(Stop::ReadFault) => Status::ReadFault,
         Err(Stop::Memory) => Status::Memory,

@@ -14,6 +14,6 @@ invariant-loop-k g l =
       gives : IsTrue g.F.Files.tells
           → texts_at old (map string_bytes l.names) l.kinds ≡ before l.texts.items (texts_at old (drop l.k (map string_bytes l.names)) (drop l.k l.kinds));
       count : length l.texts.items ≡ l.k;
-      short : All (λ text. length text ≤ 33_554_432) l.texts.items;
+      short : All (λ text. length text ≤ 67_108_864) l.texts.items;
       counts : HasReadCause ⊥ (g.F.Files.faults l.fn.files) (g.F.Files.faults l.files);
     }

@@ -6,7 +6,9 @@ use Rattle.df_cells.specs.Cells.{inputs_of, declaration_of}
 use Rattle.df_iotext.specs.Inputs.{HaveOwnNames}
 use Rattle.df_celltext.specs.declared.version.Version.TheVariants.{Two}
 use Rattle.df_commands.specs.Texts.{ReadsInputText, ReadsCellFile}
-use Rattle.df_commands.specs.Verdicts.{Verdict, RunCells, JudgesInputs}
+use Rattle.df_values.specs.declared.values.Value.{Value}
+use Rattle.df_cells.specs.declared.schedules.Schedule.{Schedule}
+use Rattle.df_commands.specs.Verdicts.{Verdict, Task, JudgesInputs}
 use Rattle.df_commands.specs.Judged.{StopsAs}
 use Rattle.std.specs.Prelude.{map}
 use Rattle.df_commands.proofs.Judging.{refused_first, refused_behind}
@@ -17,8 +19,8 @@ use Rattle.df_commands.proofs.run.judged.Goals as goal
 pub returns-in_err-cells-clause-finds : goal.returns-in_err-cells-clause-finds
 returns-in_err-cells-clause-finds c =
     let p = err_from_is_err_and c.from_residual.result c.from_residual.ensures.1 in
-    rw (p.1, p.2) (refused_first (λ (cells : List Cell). cells) (ReadsCellFile Two c.args.cells.now)
-    (λ (v : Verdict) (cells : List Cell). JudgesInputs (inputs_of cells) c.args.input.now c.args.schedule.now (λ inputs choices. RunCells cells inputs choices) v)
+    rw (p.1, p.2) (λ (task : List Cell → List (List Value) → Schedule → Task). refused_first (λ (cells : List Cell). cells) (ReadsCellFile Two c.args.cells.now)
+    (λ (v : Verdict) (cells : List Cell). JudgesInputs (inputs_of cells) c.args.input.now c.args.schedule.now (task cells) v)
     c.in_err-cells.field-0.0 c.in_err-cells.ensures)
 
 pub judged_inputs-requires-clause-names : goal.judged_inputs-requires-clause-names
@@ -27,14 +29,14 @@ judged_inputs-requires-clause-names c = subst HaveOwnNames (sym c.in_ok-decls.en
 pub returns-in_err-texts-clause-finds : goal.returns-in_err-texts-clause-finds
 returns-in_err-texts-clause-finds c =
     let p = err_from_is_err_and c.from_residual-in_err-texts.result c.from_residual-in_err-texts.ensures.1 in
-    rw (p.1, p.2) (refused_behind (ReadsCellFile Two c.args.cells.now)
-    (λ (v : Verdict) (cells : List Cell). JudgesInputs (inputs_of cells) c.args.input.now c.args.schedule.now (λ inputs choices. RunCells cells inputs choices) v)
+    rw (p.1, p.2) (λ (task : List Cell → List (List Value) → Schedule → Task). refused_behind (ReadsCellFile Two c.args.cells.now)
+    (λ (v : Verdict) (cells : List Cell). JudgesInputs (inputs_of cells) c.args.input.now c.args.schedule.now (task cells) v)
     c.in_ok-cells.cells c.in_err-texts.field-0.0 c.in_ok-cells.ensures
-    (subst (λ decls. StopsAs (JudgesInputs decls c.args.input.now c.args.schedule.now (λ inputs choices. RunCells c.in_ok-cells.cells inputs choices)) c.in_err-texts.field-0.0)
-    c.in_ok-decls.ensures (c.in_err-texts.ensures.stops (λ inputs choices. RunCells c.in_ok-cells.cells inputs choices))))
+    (subst (λ decls. StopsAs (JudgesInputs decls c.args.input.now c.args.schedule.now (task c.in_ok-cells.cells)) c.in_err-texts.field-0.0)
+    c.in_ok-decls.ensures (c.in_err-texts.ensures.stops (task c.in_ok-cells.cells))))
 
 pub returns-clause-finds : goal.returns-clause-finds
-returns-clause-finds c = record {
+returns-clause-finds c = λ task. record {
   read = Ok c.in_ok-cells.cells;
   reads = c.in_ok-cells.ensures;
   goes = record {

@@ -1,0 +1,12 @@
+pub mod Quiet
+pub mod Fired
+pub mod Ranks
+pub mod Runs
+pub mod Levels
+pub mod Driven
+pub mod Short
+pub mod Drains
+pub mod Flights
+pub mod Locked
+pub mod Ends
+pub mod Told
