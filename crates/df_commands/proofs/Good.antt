@@ -23,12 +23,13 @@ use Rattle.df_labels.specs.Histories.{IsPrefix}
 use Rattle.df_machine.specs.Events.{possible}
 use Rattle.df_machine.specs.Reports.{report}
 use Rattle.df_machine.specs.Runs.{after}
+use Rattle.df_lockstep.specs.Laws.{KeepsFullRate, DrainsInTime, WholeInTime}
 use Rattle.df_rank.specs.Laws.{RealizingCellsAreGood}
 use Rattle.df_syntax.specs.SourceMeaning.{source_inputs, source_mean}
 use Rattle.df_syntax.specs.declared.program.Program.{Program as Tree}
 use Rattle.df_commands.specs.Compiled.{IsCompiled}
 use Rattle.df_commands.specs.Inputs.{decls_by}
-use Rattle.df_commands.specs.Laws.{CellsOfSourcesAreGood, DrainedRunsTellTheMeaning}
+use Rattle.df_commands.specs.Laws.{CellsOfSourcesAreGood, CellsOfSourcesAreInTime, DrainedRunsTellTheMeaning}
 use Rattle.df_commands.specs.Ready.{IsFlatOf}
 use Rattle.df_commands.proofs.SourcesMeant.{declared_by_decls, flat_inputs, meant}
 
@@ -58,6 +59,22 @@ good_for_source are_good keeps tree flat cells is inputs formed balanced realize
           ∙ ap (λ (o : List (List Value)). get_or o k []) (meant keeps tree flat lists is valid);
     }
 
+pub in_time_for_source : KeepsFullRate → DrainsInTime → WholeInTime → LoweringKeepsTheMeaning → CellsOfSourcesAreInTime
+in_time_for_source full drains whole keeps tree flat cells is inputs formed balanced realizes loopless lists valid =
+    let own = valid_inputs tree cells lists (inputs_of_source tree flat cells is inputs) valid in
+    let told = realizes.tells lists own in
+    let ends = drains cells lists told.labels formed own balanced loopless told.meet in
+    record {
+      labels = told.labels;
+      meet = told.meet;
+      rate = full cells lists told.labels formed own balanced loopless told.meet;
+      drained = ends.0;
+      all = ends.1;
+      whole = λ k.
+          whole cells (flat_mean flat) formed balanced loopless realizes lists k own
+          ∙ ap (λ (o : List (List Value)). get_or o k []) (meant keeps tree flat lists is valid);
+    }
+
 -- what the compiler of flat programs promises, said of the source
 -- the names of inputs, as what cells declare
 all_named : (inputs : List Input) → AllByRecursion (λ (i : Input). IsTrue (is_name i.name)) inputs → All (λ (d : InputDecl). IsTrue (is_name d.name)) (decls_by inputs)
@@ -69,10 +86,10 @@ names_of_source : InputsAreNamed → (text : List ℕ) (tree : Tree) (cells : Li
 names_of_source named text tree cells is same =
     subst (λ (ds : List InputDecl). All (λ (d : InputDecl). IsTrue (is_name d.name)) ds) (sym same) (all_named (source_inputs tree) (named text is.list tree is.tokens is.source))
 
-pub compiled_source : CellsOfSourcesAreGood → InputsAreNamed → (text : List ℕ) (tree : Tree) (flat : Flat) (cells : List Cell) (flow : List ℕ) → IsTextOfTree text tree
+pub compiled_source : CellsOfSourcesAreGood → CellsOfSourcesAreInTime → InputsAreNamed → (text : List ℕ) (tree : Tree) (flat : Flat) (cells : List Cell) (flow : List ℕ) → IsTextOfTree text tree
     → IsFlatOf tree flat → IsCompiledFrom flat cells flow
     → IsCompiled tree cells flow
-compiled_source are_good named text tree flat cells flow reads is from = record {
+compiled_source are_good in_time named text tree flat cells flow reads is from = record {
   well_formed = from.well_formed;
   inputs = inputs_of_source tree flat cells is from.inputs;
   named = names_of_source named text tree cells reads (inputs_of_source tree flat cells is from.inputs);
@@ -82,6 +99,7 @@ compiled_source are_good named text tree flat cells flow reads is from = record 
   lowest = from.lowest;
   certificate = from.certificate;
   good = are_good tree flat cells is from.inputs from.well_formed from.balanced from.realizes;
+  in_time = in_time tree flat cells is from.inputs from.well_formed from.balanced from.realizes;
 }
 
 -- ---- drained runs
