@@ -5,7 +5,7 @@ ghost use Rattle.df_cells.specs.WellFormed.{WellFormed};
 ghost use Rattle.df_stages.specs.Flows.{EndsWithin, total_excess};
 ghost use Rattle.df_stages.specs.Skeletons.{arcs, nodes, skeleton_of};
 ghost use Rattle.df_buffers_laws.specs.Insertions.{ports_to_buffer};
-ghost use Rattle.df_buffers_laws.specs.Buffered.{HasNoBuffers};
+ghost use Rattle.df_labels.specs.Finishing.{HasNoBuffers};
 ghost use Rattle.df_buffers_laws.specs.Placed.{AreMade, ArePlaced};
 ghost use Rattle.df_buffers.specs.Staging.{IsStage};
 

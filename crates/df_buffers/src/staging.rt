@@ -4,7 +4,7 @@ ghost use Rattle.df_cells.specs.declared.cells.CellId.{CellId};
 ghost use Rattle.df_cells.specs.Cells.{port_of, producer_of, AreCells};
 ghost use Rattle.df_cancel.specs.Balances.{numbered};
 ghost use Rattle.df_stages.specs.Skeletons.{nodes, skeleton_of};
-ghost use Rattle.df_buffers_laws.specs.Buffered.{HasNoBuffers};
+ghost use Rattle.df_labels.specs.Finishing.{HasNoBuffers};
 ghost use Rattle.df_buffers.specs.Staging.{AreNodeStages, AreBufferStages, IsBehind, IsStage, StagedSoFar};
 
 use df_buffers_laws::laws::counts_nodes;

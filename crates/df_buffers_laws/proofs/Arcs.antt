@@ -14,12 +14,11 @@ use Rattle.df_cells.specs.Paths.{mark_of}
 use Rattle.df_cells.specs.Shifts.{origin}
 use Rattle.df_cells.specs.WellFormed.{WellFormed}
 use Rattle.df_labels.specs.Graphs.{Node, node_of, graph_of, HasPort}
-use Rattle.df_labels.specs.Finishing.{ArcsWithin}
+use Rattle.df_labels.specs.Finishing.{ArcsWithin, HasNoBuffers}
 use Rattle.df_stages.specs.declared.skeleton.SkeletonArc.{SkeletonArc}
 use Rattle.df_stages.specs.Nodes.{same_node}
 use Rattle.df_stages.specs.Skeletons.{arcs}
 use Rattle.df_buffers_laws.specs.Insertions.{ports_to_buffer}
-use Rattle.df_buffers_laws.specs.Buffered.{HasNoBuffers}
 use Rattle.df_buffers_laws.proofs.Origins.{origin_stays}
 use Rattle.df_buffers_laws.proofs.Paths.{none_past}
 use Rattle.df_buffers_laws.proofs.AtPorts.{Stands}

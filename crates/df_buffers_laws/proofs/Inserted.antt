@@ -15,9 +15,9 @@ use Rattle.df_cells.specs.Kinds.{is_buffer}
 use Rattle.df_cells.specs.Cells.{cell_at, cell_from, feed_of, port_of, producer_of, is_buf, same_port}
 use Rattle.df_cells.specs.Shifts.{cell_or, back, back_over, origin, buffers_over, buffers_from}
 use Rattle.df_labels.specs.Graphs.{Node, node_at, node_of, graph_of}
-use Rattle.df_labels.specs.Finishing.{ArcsWithin}
+use Rattle.df_labels.specs.Finishing.{ArcsWithin, HasNoBuffers}
 use Rattle.df_buffers_laws.specs.Insertions.{inserted}
-use Rattle.df_buffers_laws.specs.Buffered.{over_buffers, HasNoBuffers, FeedsOne, IsBuffered}
+use Rattle.df_buffers_laws.specs.Buffered.{over_buffers, FeedsOne, IsBuffered}
 use Rattle.df_buffers_laws.specs.HasSkeleton.{met_over, met_from, buffers_on}
 use Rattle.df_buffers_laws.proofs.Origins.{back_moves, back_stays, stays}
 use Rattle.df_buffers_laws.proofs.Ports.{places}

@@ -16,7 +16,8 @@ use Rattle.df_stages.specs.Skeletons.{arcs}
 use Rattle.df_stages.specs.Laws.{HasSkeletons}
 use Rattle.df_wellformed.specs.Laws.{MarksAreUnique}
 use Rattle.df_labels.specs.Graphs.{Graph, Node, node_at, node_of, graph_of}
-use Rattle.df_buffers_laws.specs.Buffered.{over_buffers, HasNoBuffers, IsBuffered}
+use Rattle.df_buffers_laws.specs.Buffered.{over_buffers, IsBuffered}
+use Rattle.df_labels.specs.Finishing.{HasNoBuffers}
 use Rattle.df_buffers_laws.specs.Filled.{filled}
 use Rattle.df_buffers_laws.specs.Laws.{SameSkeletons}
 use Rattle.df_buffers_laws.proofs.Arcs.{within_old}

@@ -30,7 +30,8 @@ use Rattle.df_labels.specs.Graphs.{node_of, graph_of}
 use Rattle.df_labels.specs.Members.{Labels}
 use Rattle.df_buffers_laws.specs.HasSkeleton.{buffers_on, node_over, HasSkeleton}
 use Rattle.df_buffers_laws.specs.Insertions.{ports_to_buffer, buffered}
-use Rattle.df_buffers_laws.specs.Buffered.{over_buffers, HasNoBuffers, IsBuffered}
+use Rattle.df_buffers_laws.specs.Buffered.{over_buffers, IsBuffered}
+use Rattle.df_labels.specs.Finishing.{HasNoBuffers}
 use Rattle.df_buffers_laws.specs.Carried.{carried}
 use Rattle.df_buffers_laws.specs.Staged.{HasLowestStage}
 use Rattle.df_buffers_laws.specs.Placed.{counts_of, AreMade, ArePlaced}

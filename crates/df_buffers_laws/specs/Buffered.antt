@@ -1,23 +1,20 @@
 -- Cells, and the same cells with BUF cells on their arcs.
-use Rattle.std.specs.Prelude.{◌≡◌, ℕ, ◌<◌, ◌≤◌, false, List, [], ◌∷◌, length, map, Some}
+use Rattle.std.specs.Prelude.{◌≡◌, ℕ, ◌<◌, ◌≤◌, List, [], ◌∷◌, length, map, Some}
 use Rattle.df_cells.specs.declared.cells.CellId.{CellId}
 use Rattle.df_cells.specs.declared.cells.Cell.{Cell}
 use Rattle.df_cells.specs.declared.cells.Dest.{Dest}
 use Rattle.df_cells.specs.declared.cells.Feed.{Feed}
 use Rattle.df_cells.specs.declared.cells.Feed.TheVariants.{Arc, Constant, Loaded}
 use Rattle.df_cells.specs.declared.kinds.Kind.TheVariants as kind
-use Rattle.df_cells.specs.Cells.{cell_at, is_buf, producer_of}
+use Rattle.df_cells.specs.Cells.{cell_at, producer_of}
 use Rattle.df_cells.specs.Shifts.{origin, buffers_from}
-use Rattle.df_labels.specs.Finishing.{ArcsWithin}
+use Rattle.df_labels.specs.Finishing.{ArcsWithin, HasNoBuffers}
 
 -- a feed, with the cell from which it comes over BUF cells
 abbrev pub over_buffers : List Cell → Feed → Feed
 over_buffers cells (Arc u) = Arc (record { 0 = origin cells u.0 })
 over_buffers cells (Constant v) = Constant v
 over_buffers cells (Loaded u v) = Loaded (record { 0 = origin cells u.0 }) v
-
-abbrev pub HasNoBuffers : List Cell → Type 0
-HasNoBuffers cells = (c : ℕ) → c < length cells → is_buf cells c ≡ false
 
 -- a cell feeds one port
 pub record FeedsOne (cells : List Cell) (b : ℕ) : Type 0 where

@@ -8,7 +8,8 @@ use Rattle.df_stages.specs.Skeletons.{arcs, skeleton_of}
 use Rattle.df_cancel.specs.Balances.{numbered, IsBalance}
 use Rattle.df_labels.specs.Graphs.{graph_of, HasArcs, HasPort}
 use Rattle.df_buffers_laws.specs.Insertions.{ports_to_buffer, buffered}
-use Rattle.df_buffers_laws.specs.Buffered.{HasNoBuffers, IsBuffered}
+use Rattle.df_buffers_laws.specs.Buffered.{IsBuffered}
+use Rattle.df_labels.specs.Finishing.{HasNoBuffers}
 use Rattle.df_buffers_laws.specs.Nodes.{HasCountedNodes}
 use Rattle.df_buffers_laws.specs.Placed.{counts_of, AreMade, ArePlaced}
 

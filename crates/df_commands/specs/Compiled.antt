@@ -14,6 +14,7 @@ use Rattle.df_stages.specs.Balance.{IsBalanced, IsLeast, IsCertificate}
 use Rattle.df_stages.specs.Skeletons.{arcs}
 use Rattle.df_dual_check.specs.DualTexts.{dual_text}
 use Rattle.df_labels.specs.Histories.{IsPrefix}
+use Rattle.df_lockstep.specs.Rates.{HasNoLoops}
 use Rattle.df_machine.specs.Events.{chosen_event, possible}
 use Rattle.df_machine.specs.Reports.{Report, report}
 use Rattle.df_machine.specs.Runs.{after, IsClash}
@@ -25,6 +26,7 @@ use Rattle.df_build_elem.specs.Program.{program_graph}
 use Rattle.df_buffers_laws.specs.HasSkeleton.{HasSkeleton}
 use Rattle.df_buffers_laws.specs.Staged.{HasLowestStage}
 use Rattle.df_commands.specs.Effects.{Effect}
+use Rattle.df_commands.specs.InTime.{IsInTime}
 use Rattle.df_commands.specs.Inputs.{decls_by}
 use Rattle.df_commands.specs.Lines.{line}
 use Rattle.df_commands.specs.Phased.{EndsAfter, report_of_phases, phases_text}
@@ -52,8 +54,8 @@ pub record IsGood (tree : Tree) (cells : List Cell) : Type 0 where
       → get_or (after cells inputs choices).results k [] ≡ get_or (source_mean tree inputs) k []
 
 -- The cells of a source: well-formed, with the inputs of the source under names that a cell file may have, with the
--- skeleton of its flat program, balanced with least buffers from stage 0 on, and good. The flow certifies that the
--- buffers are least.
+-- skeleton of its flat program, balanced with least buffers from stage 0 on, good, and in time where no cell is on a
+-- loop. The flow certifies that the buffers are least.
 pub record IsCompiled (tree : Tree) (cells : List Cell) (flow : List ℕ) : Type 0 where
   pub well_formed : WellFormed cells
   pub inputs : inputs_of cells ≡ decls_by (source_inputs tree)
@@ -64,6 +66,8 @@ pub record IsCompiled (tree : Tree) (cells : List Cell) (flow : List ℕ) : Type
   pub lowest : HasLowestStage cells
   pub certificate : IsCertificate cells flow
   pub good : IsGood tree cells
+  pub in_time : HasNoLoops cells → (lists : List (List Value)) → AreValid (declared (source_inputs tree)) lists
+      → IsInTime tree cells lists
 
 -- ---- what may be written
 

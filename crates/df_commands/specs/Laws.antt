@@ -10,6 +10,7 @@ use Rattle.df_core.specs.Meaning.{flat_mean}
 use Rattle.df_core.specs.declared.flat.Flat.{Flat}
 use Rattle.df_build_elem.specs.Program.{declared_inputs}
 use Rattle.df_labels.specs.ForAll.{RealizesForAll, for_all}
+use Rattle.df_lockstep.specs.Rates.{HasNoLoops}
 use Rattle.df_stages.specs.Balance.{IsBalanced}
 use Rattle.df_cells.specs.declared.cells.Cell.{Cell}
 use Rattle.df_cells.specs.Cells.{inputs_of}
@@ -17,6 +18,7 @@ use Rattle.df_cells.specs.declared.schedules.Schedule.{Schedule}
 use Rattle.df_celltext.specs.declared.version.Version.{Version}
 use Rattle.df_commands.specs.Compiled.{IsGood, run_of}
 use Rattle.df_commands.specs.Commands.{Order}
+use Rattle.df_commands.specs.InTime.{IsInTime}
 use Rattle.df_commands.specs.Ready.{IsFlatOf}
 use Rattle.df_commands.specs.Texts.{ReadsCellFile, ReadsTraceFile, ReadsDualFile}
 use Rattle.df_commands.specs.Verdicts.{Verdict, Judges}
@@ -31,6 +33,13 @@ abbrev pub CellsOfSourcesAreGood : Type 0
 CellsOfSourcesAreGood = (tree : Tree) (flat : Flat) (cells : List Cell) → IsFlatOf tree flat
     → inputs_of cells ≡ declared_inputs flat → WellFormed cells → IsBalanced cells
     → RealizesForAll cells (for_all (flat_mean flat)) → IsGood tree cells
+
+-- And where no cell is on a loop, they keep the full rate.
+abbrev pub CellsOfSourcesAreInTime : Type 0
+CellsOfSourcesAreInTime = (tree : Tree) (flat : Flat) (cells : List Cell) → IsFlatOf tree flat
+    → inputs_of cells ≡ declared_inputs flat → WellFormed cells → IsBalanced cells
+    → RealizesForAll cells (for_all (flat_mean flat)) → HasNoLoops cells
+    → (inputs : List (List Value)) → AreValid (declared (source_inputs tree)) inputs → IsInTime tree cells inputs
 
 -- The report of a drained run of good cells has the results that the source means.
 abbrev pub DrainedRunsTellTheMeaning : Type 0

@@ -7,6 +7,7 @@ pub mod ProgramTexts
 pub mod Texts
 pub mod Verdicts
 pub mod Phased
+pub mod InTime
 pub mod Compiled
 pub mod TracedRuns
 pub mod Plans

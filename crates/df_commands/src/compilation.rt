@@ -9,7 +9,7 @@ ghost use Rattle.df_commands.specs.Plans.{file_of};
 ghost use Rattle.df_commands.specs.ProgramTexts.{ReadsCompilable};
 ghost use Rattle.df_commands.specs.Judged.{GivesMeaning};
 
-use crate::laws::cells_of_sources_are_good;
+use crate::laws::{cells_of_sources_are_good, cells_of_sources_are_in_time};
 use crate::plan::NewFile;
 use crate::programs::{Source, judge_program};
 use crate::refusals::{refused, refused_count};
@@ -33,7 +33,7 @@ pub struct CompiledSource {
 
 /// The cells of a source, if it is accepted and they are not too many. For all valid inputs and every list of choices
 /// no operand comes to an occupied place, each result is a prefix of what the source means, and it is all of it
-/// whenever no event is possible.
+/// whenever no event is possible. Where no cell is on a loop, they keep the full rate in lock step.
 pub fn judge_compilation(alloc: Global, text: &[u8]) -> Result<CompiledSource, Stop>
     requires { length text.now ≤ 4294967294 }
     ensures reads { GivesMeaning (λ it. it.tree) result (ReadsCompilable text.now) }
@@ -41,6 +41,7 @@ pub fn judge_compilation(alloc: Global, text: &[u8]) -> Result<CompiledSource, S
     ensures skeleton { IfOk result (λ it. it.compiled.skeleton ≡ skeleton_of it.compiled.cells) }
 {
     cells_of_sources_are_good();
+    cells_of_sources_are_in_time();
     inputs_are_named();
     let Source { tree, flat } = judge_program(alloc, text)?;
     match compile(alloc, &flat) {

@@ -1,5 +1,5 @@
 //! What follows from the definitions of the verdict alone: each call does nothing, and its contract is a law.
-ghost use Rattle.df_commands.specs.Laws.{AcceptedSourcesBindNewNames, AcceptedSourcesKeepTheirDemands, CellFilesHaveOneReading, CellFilesHaveReadings, CellsOfSourcesAreGood, CompilationsHaveOneReading, CompilationsHaveReadings, DrainedRunsTellTheMeaning, DualFilesHaveOneReading, DualFilesHaveReadings, HasOneVerdict, HasSomeVerdict, ProgramsHaveOneReading, ProgramsHaveReadings, TraceFilesHaveOneReading, TraceFilesHaveReadings};
+ghost use Rattle.df_commands.specs.Laws.{AcceptedSourcesBindNewNames, AcceptedSourcesKeepTheirDemands, CellFilesHaveOneReading, CellFilesHaveReadings, CellsOfSourcesAreGood, CellsOfSourcesAreInTime, CompilationsHaveOneReading, CompilationsHaveReadings, DrainedRunsTellTheMeaning, DualFilesHaveOneReading, DualFilesHaveReadings, HasOneVerdict, HasSomeVerdict, ProgramsHaveOneReading, ProgramsHaveReadings, TraceFilesHaveOneReading, TraceFilesHaveReadings};
 
 use df_accepted::laws::accepted_sources_are_piped;
 use df_celltext::laws::{has_one_first_wrong_line, is_read_or_wrong, text_tells_the_cells};
@@ -13,6 +13,7 @@ use df_iotext::laws::{
     inputs_have_one_reading, inputs_have_readings, schedules_have_one_reading,
     schedules_have_readings,
 };
+use df_lockstep::laws::{drains_in_time, keeps_full_rate, whole_in_time};
 use df_syntax::laws::{
     text_has_one_first_bad_place, text_has_one_split, text_has_tokens_or_a_bad_place,
     text_with_tokens_has_no_bad_place, tokens_have_one_answer, tokens_have_some_answer,
@@ -128,6 +129,16 @@ pub fn cells_of_sources_are_good()
 {
     realizing_for_all_is_good();
     good_for_all_is_good();
+    lowering_keeps_the_meaning();
+}
+
+/// Where no cell is on a loop, such cells keep the full rate in runs in lock step: two phases an element.
+pub fn cells_of_sources_are_in_time()
+    ensures { CellsOfSourcesAreInTime }
+{
+    keeps_full_rate();
+    drains_in_time();
+    whole_in_time();
     lowering_keeps_the_meaning();
 }
 

@@ -18,7 +18,7 @@ use Rattle.df_cancel.specs.Balances.{numbered, IsBalance, IsTight}
 use Rattle.df_labels.specs.Graphs.{Graph, node_of, graph_of}
 use Rattle.df_core.specs.declared.flat.Flat.{Flat}
 use Rattle.df_build_elem.specs.Program.{program_graph, census}
-use Rattle.df_buffers_laws.specs.Buffered.{HasNoBuffers}
+use Rattle.df_labels.specs.Finishing.{HasNoBuffers}
 use Rattle.df_buffers_laws.specs.Laws.{SameSkeletons}
 use Rattle.df_compile.specs.Placed.{most_cells, IsOver}
 use Rattle.df_compile.specs.Compiled.{most_skeleton_cells, IsOverfull}

@@ -7,7 +7,7 @@ use Rattle.df_stages.specs.Balance.{IsBalanced, IsLeast, IsCertificate}
 use Rattle.df_labels.specs.Graphs.{graph_of}
 use Rattle.df_labels.specs.ForAll.{RealizesForAll, for_all}
 use Rattle.df_buffers_laws.specs.HasSkeleton.{HasSkeleton}
-use Rattle.df_buffers_laws.specs.Buffered.{HasNoBuffers}
+use Rattle.df_labels.specs.Finishing.{HasNoBuffers}
 use Rattle.df_buffers_laws.specs.Staged.{HasLowestStage}
 use Rattle.df_core.specs.declared.flat.Flat.{Flat}
 use Rattle.df_core.specs.Meaning.{flat_mean}

@@ -8,7 +8,7 @@ ghost use Rattle.df_labels.specs.Graphs.{graph_of};
 ghost use Rattle.df_labels.specs.ForAll.{RealizesForAll, for_all};
 ghost use Rattle.df_stages.specs.Skeletons.{skeleton_of};
 ghost use Rattle.df_build_elem.specs.Program.{program_graph, declared_inputs};
-ghost use Rattle.df_buffers_laws.specs.Buffered.{HasNoBuffers};
+ghost use Rattle.df_labels.specs.Finishing.{HasNoBuffers};
 ghost use Rattle.df_compile.specs.Placed.{IsFilled, IsOver};
 ghost use Rattle.df_compile.specs.Compiled.{IsCompiledFrom, IsUnplaced, IsRefused, Fits};
 

@@ -11,12 +11,16 @@ use Rattle.df_cells.specs.declared.kinds.Kind.TheVariants as kind
 use Rattle.df_cells.specs.Cells.{cell_at, outputs}
 use Rattle.df_cells.specs.WellFormed.{WellFormed}
 use Rattle.df_machine.specs.Runs.{after, events}
-use Rattle.df_machine.specs.Laws.{HasAllResults}
+use Rattle.df_machine.specs.Events.{possible}
+use Rattle.df_machine.specs.Seen.{Loaded}
+use Rattle.df_machine.specs.Laws.{TellsPossible, HasAllResults}
+use Rattle.df_histories.specs.Reached.{IsAfter, IsReached}
 use Rattle.df_labels.specs.Histories.{IsPrefix}
 use Rattle.df_histories.specs.Laws.{NeverClashes, ResultsHaveOutputs}
 use Rattle.df_labels.specs.Members.{Member, sure}
 use Rattle.df_members.specs.Laws.{FollowsMembers}
-use Rattle.df_labels.specs.ForAll.{MemberOutcome}
+use Rattle.df_labels.specs.ForAll.{MemberOutcome, IsAllMembers}
+use Rattle.df_ends.specs.Good.{HoldsAll, HasLabelResults, HasWholeResults}
 use Rattle.df_ends.specs.Ranks.{rank_of}
 use Rattle.df_ends.specs.Laws.{EndsWhole, BalancedCellsHaveRanks, RealizingForAllIsFaithful, RealizingForAllIsGood}
 use Rattle.df_ends.specs.Laws.{EndlessRunsGoOn}
@@ -73,6 +77,31 @@ realizing_for_all_is_good faithful ranks ends all outs cells meaning w balanced 
       (omega arith) none in
       (ended.1 c k m is).1;
 }
+
+-- ---- of a tracked machine
+
+possible_here : TellsPossible → (t : Loaded) (reached : IsReached t) (choices : List ℕ) → IsAfter t choices
+    → possible t.cells t.state ≡ 0
+    → possible t.cells (after t.cells t.inputs choices) ≡ 0
+possible_here tells t reached choices at none =
+    sym (tells t.cells t.inputs choices reached.well_formed) ∙ subst (λ s. possible t.cells s ≡ 0) at none
+
+pub label_results : TellsPossible → BalancedCellsHaveRanks → EndsWhole → (t : Loaded) → IsReached t
+    → possible t.cells t.state ≡ 0
+    → HasLabelResults t
+label_results tells ranks ends t reached none choices at n labels balanced meet placed few =
+    let w = reached.well_formed in
+    let ranked = ranks t.cells t.inputs n labels w balanced meet placed in
+    let ended = ends t.cells t.inputs n labels (rank_of t.cells labels placed.place) choices w reached.fits meet ranked few
+    (possible_here tells t reached choices at none) in
+    subst (HoldsAll t.cells labels) (sym at) (λ c k m is. (ended.1 c k m is).0)
+
+pub whole_results : TellsPossible → RealizingForAllIsGood → (t : Loaded) → IsReached t → possible t.cells t.state ≡ 0
+    → HasWholeResults t
+whole_results tells good t reached none choices at meaning balanced realizes n k few =
+    subst (λ s. IsAllMembers (get_or s.results k []) (meaning t.inputs n) k) (sym at)
+    ((good t.cells meaning reached.well_formed balanced realizes).whole t.inputs choices n k reached.fits few
+    (possible_here tells t reached choices at none))
 
 -- ---- results that are never whole
 

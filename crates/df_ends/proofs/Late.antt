@@ -27,8 +27,7 @@ use Rattle.df_cells.specs.Shifts.{controls_from, controls, gate_place, gate_part
 use Rattle.df_labels.specs.Histories.{listed}
 use Rattle.df_labels.specs.Labels.{Turn, Firing, Stream, Labels, block_turn, later, stream_turns, stream_values}
 use Rattle.df_labels.specs.Labels.{at_turn, answered, received, source_list, in_order_from, IsRightFiring, LabelsMeet}
-use Rattle.df_labels.specs.Finishing.{ArcsWithin}
-use Rattle.df_ends.specs.OfValues.{HasNoBuffers}
+use Rattle.df_labels.specs.Finishing.{ArcsWithin, HasNoBuffers}
 
 -- the turn is not among the first g
 abbrev IsLate : ℕ → Turn → Type 0

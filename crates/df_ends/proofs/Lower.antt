@@ -39,10 +39,10 @@ record Between (cells : List Cell) (inputs : List (List Value)) (n : ℕ) (label
   follows : Follows cells inputs choices labels
   none : (after cells inputs choices).packets ≡ []
 
-abbrev given : Labels → ℕ → ℕ → ℕ
+abbrev pub given : Labels → ℕ → ℕ → ℕ
 given labels u n = size (λ f. f.answer) (labels u) n
 
-abbrev took_by : Labels → Dest → ℕ → ℕ
+abbrev pub took_by : Labels → Dest → ℕ → ℕ
 took_by labels d n = size (λ f. get_or f.taken d.port.0 None) (labels d.cell.0) n
 
 abbrev loads : List Cell → Dest → ℕ
@@ -61,7 +61,7 @@ some_bit true h = refl
 some_bit false h = absurd (omega arith)
 
 -- a port that is fed is a port of a cell
-end_within : (cells : List Cell) (d : Dest) (u : CellId) → producer_of cells d ≡ Some u → d.cell.0 < length cells
+pub end_within : (cells : List Cell) (d : Dest) (u : CellId) → producer_of cells d ≡ Some u → d.cell.0 < length cells
 end_within cells d u fed = elim (cases_lt d.cell.0 (length cells)) [
   | inl within ↦ within
   | inr past ↦ absurd (none-some u
@@ -70,7 +70,7 @@ end_within cells d u fed = elim (cases_lt d.cell.0 (length cells)) [
 ]
 
 -- in all, as many members are taken as are answered
-totals : (cells : List Cell) (inputs : List (List Value)) (n : ℕ) (labels : Labels) → LabelsMeet cells inputs n labels
+pub totals : (cells : List Cell) (inputs : List (List Value)) (n : ℕ) (labels : Labels) → LabelsMeet cells inputs n labels
     → (d : Dest) (u : CellId) → producer_of cells d ≡ Some u
     → took_by labels d (length (labels d.cell.0)) ≡ given labels u.0 (length (labels u.0))
 totals cells inputs n labels meet d u fed =

@@ -22,7 +22,7 @@ use Rattle.df_labels.specs.MemberPlaces.{HasPlaces, Proceeds}
 use Rattle.df_stages.specs.Laws.{HeightsRise, HeightsStay}
 use Rattle.df_stages.specs.Nodes.{same_node}
 use Rattle.df_stages.specs.Balance.{height, IsBalanced}
-use Rattle.df_ends.specs.Ranks.{is_lower, IsLower, HasRanks, rank_of}
+use Rattle.df_ends.specs.Ranks.{is_lower, IsLower, HasRanks, level, rank_of}
 use Rattle.df_ends.specs.Laws.{BalancedCellsHaveRanks}
 use Rattle.df_ends.proofs.Counting.{rises}
 use Rattle.df_ends.proofs.Streams.{size, size_next, size_all, size_within}
@@ -117,17 +117,14 @@ module _ (g : Firing → Option Member) where
 
 module _ (cells : List Cell) (inputs : List (List Value)) (n : ℕ) (labels : Labels)
     (meet : LabelsMeet cells inputs n labels) (places : HasPlaces cells labels) where
-  abbrev level : ℕ → ℕ → ℕ
-  level c i = height cells c + 2 * block_turn (turn_at labels c i)
-
-  turns_go_up : (c i j : ℕ) → i < j → j < length (labels c)
+  pub turns_go_up : (c i j : ℕ) → i < j → j < length (labels c)
       → block_turn (turn_at labels c i) < block_turn (turn_at labels c j)
   turns_go_up c i j less there =
       earlier_block (turn_at labels c i) (turn_at labels c j) (single_at (labels c) i (places.single c) (omega arith))
       (single_at (labels c) j (places.single c) there) (rising_at (labels c) i j (meet c).rising less there)
 
   -- from a firing to one that takes its answer
-  turns_go_over : (d : Dest) (u : CellId) (i j : ℕ) → producer_of cells d ≡ Some u → Pairs cells labels d u.0 i j
+  pub turns_go_over : (d : Dest) (u : CellId) (i j : ℕ) → producer_of cells d ≡ Some u → Pairs cells labels d u.0 i j
       → block_turn (turn_at labels d.cell.0 j) + gate_part cells u.0
       ≡ block_turn (turn_at labels u.0 i) + merge_part cells d
   turns_go_over d u i j fed pairs =
@@ -157,32 +154,32 @@ module _ (cells : List Cell) (inputs : List (List Value)) (n : ℕ) (labels : La
       let theirs : get_or given k 0 ≡ block_turn (turn_at labels u.0 i) = turn_in give (labels u.0) i pairs.gives in
       ap (λ t. t + gate) (sym mine) ∙ sym here ∙ ap (λ l. get_or l k 0) shifts ∙ there ∙ ap (λ t. t + merge) theirs
 
-  level_rises : (c i j : ℕ) → i < j → j < length (labels c) → level c i + 2 ≤ level c j
+  pub level_rises : (c i j : ℕ) → i < j → j < length (labels c) → level cells labels c i + 2 ≤ level cells labels c j
   level_rises c i j less there = let t = turns_go_up c i j less there in omega arith
 
-  lower_level : (c i e j : ℕ) → level c i < level e j
+  lower_level : (c i e j : ℕ) → level cells labels c i < level cells labels e j
       → IsLower (rank_of cells labels places.place c i) (rank_of cells labels places.place e j)
-  lower_level c i e j less = or_left (nat_lt (level c i) (level e j))
-      ((level c i == level e j) && is_lower (places.place c ∷ []) (places.place e ∷ []))
-      (lt-ltb (level c i) (level e j) less)
+  lower_level c i e j less = or_left (nat_lt (level cells labels c i) (level cells labels e j))
+      ((level cells labels c i == level cells labels e j) && is_lower (places.place c ∷ []) (places.place e ∷ []))
+      (lt-ltb (level cells labels c i) (level cells labels e j) less)
 
-  lower_place : (c i e j : ℕ) → level c i ≤ level e j → places.place c < places.place e
+  lower_place : (c i e j : ℕ) → level cells labels c i ≤ level cells labels e j → places.place c < places.place e
       → IsLower (rank_of cells labels places.place c i) (rank_of cells labels places.place e j)
-  lower_place c i e j le less = elim (cases_lt (level c i) (level e j)) [
+  lower_place c i e j le less = elim (cases_lt (level cells labels c i) (level cells labels e j)) [
     | inl below ↦ lower_level c i e j below
     | inr not_below ↦
         let p = places.place c in
         let q = places.place e in
-        or_right (nat_lt (level c i) (level e j)) ((level c i == level e j) && is_lower (p ∷ []) (q ∷ []))
-        (and_from (level c i == level e j) (is_lower (p ∷ []) (q ∷ [])) (eq-eqb (level c i) (level e j) (omega arith))
+        or_right (nat_lt (level cells labels c i) (level cells labels e j)) ((level cells labels c i == level cells labels e j) && is_lower (p ∷ []) (q ∷ []))
+        (and_from (level cells labels c i == level cells labels e j) (is_lower (p ∷ []) (q ∷ [])) (eq-eqb (level cells labels c i) (level cells labels e j) (omega arith))
         (or_left (nat_lt p q) ((p == q) && false) (lt-ltb p q less)))
   ]
 
   -- what one member joins: within a loop, or between two nodes
   data Joins (u d i j : ℕ) : Type 0 where
-    Across : level d j ≡ level u i + 1 → Joins u d i j
-    Forward : level d j ≡ level u i → places.place u < places.place d → Joins u d i j
-    Around : level d j ≡ level u i + 2 → places.place d < places.place u → Joins u d i j
+    Across : level cells labels d j ≡ level cells labels u i + 1 → Joins u d i j
+    Forward : level cells labels d j ≡ level cells labels u i → places.place u < places.place d → Joins u d i j
+    Around : level cells labels d j ≡ level cells labels u i + 2 → places.place d < places.place u → Joins u d i j
 
   proceeds : (u d i j : ℕ) → height cells u ≡ height cells d → Proceeds labels places.place u d i j → Joins u d i j
   proceeds u d i j h (inl p) = let t = p.0 in Forward (omega (arith, h, t)) p.1
@@ -208,7 +205,7 @@ module _ (cells : List Cell) (inputs : List (List Value)) (n : ℕ) (labels : La
     operand_lower u d i j (Forward same less) = lower_place u i d j (omega (arith, same)) less
     operand_lower u d i j (Around up less) = lower_level u i d j (omega (arith, up))
 
-    acknowledgement_lower : (u d i j k : ℕ) → level u i + 2 ≤ level u k → Joins u d i j
+    acknowledgement_lower : (u d i j k : ℕ) → level cells labels u i + 2 ≤ level cells labels u k → Joins u d i j
         → IsLower (rank_of cells labels places.place d j) (rank_of cells labels places.place u k)
     acknowledgement_lower u d i j k next (Across up) = lower_level d j u k (omega (arith, up, next))
     acknowledgement_lower u d i j k next (Forward same less) = lower_level d j u k (omega (arith, same, next))

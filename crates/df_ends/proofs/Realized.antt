@@ -20,7 +20,8 @@ use Rattle.df_labels.specs.Realizes.{Outcome}
 use Rattle.df_labels.specs.Members.{Member, Firing, AreLate, Pairs, firing_at, answered, received, members, sure}
 use Rattle.df_labels.specs.MemberPlaces.{HasPlaces}
 use Rattle.df_machine.specs.Runs.{after, events}
-use Rattle.df_ends.specs.OfValues.{firing_of, of_values, HasNoBuffers}
+use Rattle.df_ends.specs.OfValues.{firing_of, of_values}
+use Rattle.df_labels.specs.Finishing.{HasNoBuffers}
 use Rattle.df_ends.specs.Laws.{LabelsOfValuesMeet, RealizingCellsRealizeForAll, GoodForAllIsGood}
 use Rattle.df_ends.proofs.OfValues.{stream_of, answered_of, received_of, members_of}
 use Rattle.df_ends.proofs.Late.{late_enough}
@@ -154,6 +155,11 @@ sure_prefix (v ∷ a) (w ∷ b) rest e =
     others : (v w : Value) (x y : List Member) → Some w ∷ x ≡ Some v ∷ y → x ≡ y
     others v w x y e = cc
 
+-- so values that are all of a result of values, as members, are that result
+pub values_alone : (values : List Value) (outcome : Outcome) (k : ℕ) → sure values ≡ get_or (map sure outcome) k []
+    → values ≡ get_or outcome k []
+values_alone values outcome k e = sure_alone values (get_or outcome k []) (e ∙ result_of outcome k)
+
 pub good_for_all_is_good : GoodForAllIsGood
 good_for_all_is_good cells meaning good = record {
   faithful = record {
@@ -166,6 +172,5 @@ good_for_all_is_good cells meaning good = record {
   };
   whole = λ inputs choices k fits none.
       let all = good.whole inputs choices (suc (events cells inputs choices)) k fits (omega arith) none in
-      sure_alone (get_or (after cells inputs choices).results k []) (get_or (meaning inputs) k []) (all
-      ∙ result_of (meaning inputs) k);
+      values_alone (get_or (after cells inputs choices).results k []) (meaning inputs) k all;
 }

@@ -7,7 +7,13 @@ use Rattle.df_cells.specs.declared.kinds.Kind.TheVariants as kind
 use Rattle.df_cells.specs.Cells.{cell_at, declarations}
 use Rattle.df_machine.specs.Events.{possible, chosen_event}
 use Rattle.df_machine.specs.Runs.{after, events, IsClash}
-use Rattle.df_labels.specs.ForAll.{MeaningForAll, BeginsMembers, IsAllMembers}
+use Rattle.df_machine.specs.Seen.{Loaded}
+use Rattle.df_machine.specs.States.{State}
+use Rattle.df_stages.specs.Balance.{IsBalanced}
+use Rattle.df_labels.specs.Members.{Labels, LabelsMeet, sure, received, members}
+use Rattle.df_labels.specs.MemberPlaces.{HasPlaces}
+use Rattle.df_labels.specs.ForAll.{MeaningForAll, BeginsMembers, IsAllMembers, RealizesForAll}
+use Rattle.df_histories.specs.Reached.{IsAfter}
 
 -- For all valid inputs, every list of choices and every n above the number of its events: no event on the way is a
 -- clash, and each result is a beginning of the same result of the meaning for n.
@@ -29,3 +35,23 @@ pub record IsGoodForAll (cells : List Cell) (meaning : MeaningForAll) : Type 0 w
   pub full : (inputs : List (List Value)) (choices : List ℕ) (c k m : ℕ) → AreValid (declarations cells) inputs
       → possible cells (after cells inputs choices) ≡ 0 → (cell_at cells c).kind ≡ kind.Out k m
       → length (get_or (after cells inputs choices).results (k - 1) []) ≡ m
+
+-- ---- of one machine
+
+-- each result is all that its OUT takes in the label
+abbrev pub HoldsAll : List Cell → Labels → State → Type 0
+HoldsAll cells labels s = (c k m : ℕ) → (cell_at cells c).kind ≡ kind.Out k m
+    → sure (get_or s.results (k - 1) []) ≡ members (received 0 (labels c))
+
+-- Whatever choices led here: the results are those of all labels for more firings than the events so far, which meet
+-- the cells and the inputs, where the cells are balanced and loops have places.
+abbrev pub HasLabelResults : Loaded → Type 0
+HasLabelResults t = (choices : List ℕ) → IsAfter t choices → (n : ℕ) (labels : Labels) → IsBalanced t.cells
+    → LabelsMeet t.cells t.inputs n labels → HasPlaces t.cells labels → events t.cells t.inputs choices < n
+    → HoldsAll t.cells labels t.state
+
+-- and those of all meanings that the cells, which are balanced, realize
+abbrev pub HasWholeResults : Loaded → Type 0
+HasWholeResults t = (choices : List ℕ) → IsAfter t choices → (meaning : MeaningForAll) → IsBalanced t.cells
+    → RealizesForAll t.cells meaning → (n k : ℕ) → events t.cells t.inputs choices < n
+    → IsAllMembers (get_or t.state.results k []) (meaning t.inputs n) k

@@ -15,7 +15,8 @@ use Rattle.df_machine.specs.States.{firings}
 use Rattle.df_labels.specs.Members.{Labels, LabelsMeet, sure, received, members}
 use Rattle.df_rank.specs.Good.{IsGood}
 use Rattle.df_stages.specs.Balance.{IsBalanced}
-use Rattle.df_ends.specs.OfValues.{of_values, HasNoBuffers}
+use Rattle.df_ends.specs.OfValues.{of_values}
+use Rattle.df_labels.specs.Finishing.{HasNoBuffers}
 use Rattle.df_ends.specs.Ranks.{HasRanks, IsLower, rank_of}
 use Rattle.df_labels.specs.ForAll.{MeaningForAll, RealizesForAll, for_all}
 use Rattle.df_labels.specs.MemberPlaces.{HasPlaces}

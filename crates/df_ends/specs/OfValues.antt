@@ -1,7 +1,5 @@
 -- Labels of values, taken as labels of members of which none is nothing.
-use Rattle.std.specs.Prelude.{◌≡◌, ◌<◌, ℕ, false, List, length, map}
-use Rattle.df_cells.specs.declared.cells.Cell.{Cell}
-use Rattle.df_cells.specs.Cells.{is_buf}
+use Rattle.std.specs.Prelude.{map}
 use Rattle.df_labels.specs.Labels as plain
 use Rattle.df_labels.specs.Members.{Firing, Labels, lift, as_member}
 
@@ -10,6 +8,3 @@ firing_of f = record { turn = f.turn; taken = lift f.taken; answer = as_member f
 
 abbrev pub of_values : plain.Labels → Labels
 of_values labels c = map firing_of (labels c)
-
-abbrev pub HasNoBuffers : List Cell → Type 0
-HasNoBuffers cells = (c : ℕ) → c < length cells → is_buf cells c ≡ false

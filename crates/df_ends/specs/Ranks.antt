@@ -35,7 +35,10 @@ pub record HasRanks (cells : List Cell) (labels : Labels) (rank : ℕ → ℕ �
       → k < length (labels u.0)
       → IsLower (rank d.cell.0 j) (rank u.0 k)
 
--- the level of a firing, by the height of its cell and the turn of its block, and then the place of the cell in its
--- loop
+-- the level of a firing, by the height of its cell and the turn of its block
+abbrev pub level : List Cell → Labels → ℕ → ℕ → ℕ
+level cells labels c i = height cells c + 2 * block_turn (turn_at labels c i)
+
+-- and then the place of the cell in its loop
 abbrev pub rank_of : List Cell → Labels → (ℕ → ℕ) → ℕ → ℕ → List ℕ
-rank_of cells labels place c i = (height cells c + 2 * block_turn (turn_at labels c i)) ∷ place c ∷ []
+rank_of cells labels place c i = level cells labels c i ∷ place c ∷ []

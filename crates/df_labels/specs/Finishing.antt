@@ -1,9 +1,13 @@
 -- Cells of a graph while a builder makes them well-formed.
-use Rattle.std.specs.Prelude.{◌≡◌, ◌<◌, ◌≤◌, ℕ, List, [], get_or, length, Some}
+use Rattle.std.specs.Prelude.{◌≡◌, ◌<◌, ◌≤◌, ℕ, false, List, [], get_or, length, Some}
 use Rattle.df_cells.specs.declared.cells.CellId.{CellId}
 use Rattle.df_cells.specs.declared.cells.Cell.{Cell}
-use Rattle.df_cells.specs.Cells.{cell_at, port_of, producer_of}
+use Rattle.df_cells.specs.Cells.{cell_at, is_buf, port_of, producer_of}
 use Rattle.df_wellformed.specs.Cursors.{ListsBefore}
+
+-- no cell is a BUF
+abbrev pub HasNoBuffers : List Cell → Type 0
+HasNoBuffers cells = (c : ℕ) → c < length cells → is_buf cells c ≡ false
 
 -- each arc comes from a cell of the list
 abbrev pub ArcsWithin : List Cell → Type 0

@@ -3,12 +3,9 @@ use Rattle.std.proofs.Common.{◌≡◌, ◌≢◌, ◌⊎◌, ℕ, suc, ◌+◌
 use Rattle.std.specs.Prelude.{Bool, IsTrue}
 use Rattle.std.proofs.lemmas.Bool.{cases_lt}
 use Rattle.df_values.specs.declared.values.Value.{Value}
-use Rattle.df_values.specs.Inputs.{AreValid}
 use Rattle.df_cells.specs.declared.cells.Cell.{Cell}
-use Rattle.df_cells.specs.Cells.{declarations}
 use Rattle.df_cells.specs.WellFormed.{WellFormed}
-use Rattle.df_labels.specs.Labels.{Labels, LabelsMeet}
-use Rattle.df_stages.specs.Balance.{IsBalanced}
+use Rattle.df_labels.specs.Members.{Labels}
 use Rattle.df_machine.specs.States.{told}
 use Rattle.df_machine.specs.Runs.{after}
 use Rattle.df_machine.specs.Events.{possible}
@@ -16,8 +13,8 @@ use Rattle.df_machine.specs.Seen.{Loaded}
 use Rattle.df_machine.specs.Laws.{TellsPossible}
 use Rattle.df_histories.specs.Reached.{IsAfter}
 use Rattle.df_lockstep.specs.Phases.{after_phases, phase_choices, choices_of_phases}
-use Rattle.df_lockstep.specs.Rates.{HasNoLoops, phases_at_most}
-use Rattle.df_lockstep.specs.Laws.{PhasesAreRuns, DrainsInTime}
+use Rattle.df_lockstep.specs.Rates.{phases_at_most}
+use Rattle.df_lockstep.specs.Laws.{PhasesAreRuns, Covers, DrainsInTime}
 
 one_phase_more : (cells : List Cell) (inputs : List (List Value)) (k : ℕ)
     → choices_of_phases cells inputs (suc k) ≡ choices_of_phases cells inputs k ++ phase_choices cells inputs (after_phases cells inputs k)
@@ -93,19 +90,23 @@ locked_state runs old now k events to =
     (to.reached ∙ ap (λ (t : Loaded). told (after t.cells t.inputs (choices_of_phases old.cells old.inputs k))) to.same ∙ ap told (sym (runs old.cells old.inputs k)))
 
 -- what is within the bound, and drained there
-pub in_time : TellsPossible → PhasesAreRuns → DrainsInTime → (old now : Loaded) (k events limit : ℕ) (drained : Bool) → WellFormed old.cells → AreValid (declarations old.cells) old.inputs
-    → LockedTo old now k events → (possible now.cells now.state ≡ 0 → IsTrue drained) → (limit ≤ k) ⊎ (possible now.cells now.state ≡ 0)
-    → (labels : Labels) → IsBalanced old.cells → HasNoLoops old.cells → LabelsMeet old.cells old.inputs labels
+pub in_time : TellsPossible → PhasesAreRuns → DrainsInTime → (old now : Loaded) (k events limit : ℕ) (drained : Bool)
+    → WellFormed old.cells
+    → LockedTo old now k events → (possible now.cells now.state ≡ 0 → IsTrue drained)
+    → (limit ≤ k) ⊎ (possible now.cells now.state ≡ 0)
+    → (n : ℕ) (labels : Labels) → Covers old.cells old.inputs n labels
     → (k ≤ phases_at_most old.cells) × (phases_at_most old.cells ≤ limit → IsTrue drained)
-in_time tells runs drains old now k events limit drained well_formed fits to empty ended labels balanced free meet =
+in_time tells runs drains old now k events limit drained well_formed to empty ended n labels covers =
     let most = phases_at_most old.cells in
-    let none = (drains old.cells old.inputs labels well_formed fits balanced free meet).0 in
-    let few : k ≤ most = elim (cases_lt most k) [ inl past ↦ absurd (to.some most past none) | inr within ↦ within ] in (
+    let none = (drains old.cells old.inputs n labels covers).0 in
+    let few : k ≤ most =
+    elim (cases_lt most k) [ inl past ↦ absurd (to.some most past none) | inr within ↦ within ] in (
       few,
       λ enough. elim ended [
         | inl all ↦
             let e : k ≡ most = omega arith in
-            empty (possible_now tells runs old now k well_formed to.same to.reached ∙ ap (λ i. possible old.cells (after_phases old.cells old.inputs i)) e ∙ none)
+            empty (possible_now tells runs old now k well_formed to.same to.reached
+            ∙ ap (λ i. possible old.cells (after_phases old.cells old.inputs i)) e ∙ none)
         | inr over ↦ empty over
       ],
     )

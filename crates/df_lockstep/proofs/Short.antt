@@ -20,22 +20,23 @@ use Rattle.df_cells.specs.Firings.{Operands, family_wants, wants, with_constants
 use Rattle.df_cells.specs.Cells.{cell_at, port_of, producer_of, is_buf, values_of, declarations}
 use Rattle.df_cells.specs.Shifts.{origin, controls, gate_part, merge_part, merge_place}
 use Rattle.df_cells.specs.WellFormed.{WellFormed, number_or_none}
-use Rattle.df_labels.specs.Histories.{listed, IsRight}
-use Rattle.df_labels.specs.Labels.{Firing, Labels, turns_of, turn_at, Pairs, LabelsMeet, source_list, in_order_from}
+use Rattle.df_labels.specs.Histories.{listed}
+use Rattle.df_labels.specs.Labels.{block_turn, source_list}
+use Rattle.df_labels.specs.Members.{Member, Firing, Labels, LabelsMeet, IsWanted, Pairs, values, firing_at, in_order_from}
+use Rattle.df_labels.specs.Members.{turn_at}
+use Rattle.df_labels.specs.MemberPlaces.{HasPlaces}
 use Rattle.df_stages.specs.Balance.{IsBalanced}
-use Rattle.df_stages.proofs.Parts.{own_origin}
-use Rattle.df_rank.specs.Ranks.{greatest, level}
-use Rattle.df_labels.specs.Labels.{block_turn, no_firing}
-use Rattle.df_labels.specs.Laws.{TurnsRise, TurnsShift, LabelsGiveHistories}
 use Rattle.df_stages.specs.Laws.{HeightsRise, HeightsStay}
-use Rattle.df_lockstep.specs.Rates.{HasNoLoops, longest_source, phases_at_most}
-use Rattle.df_rank.proofs.Counting.{step, rises}
-use Rattle.df_rank.proofs.Streams.{size_next, size_here}
-use Rattle.df_rank.proofs.Lower.{given, took_by, totals, pairs}
 use Rattle.df_stages.proofs.Heights.{buffer_fed, buffer_origin, no_gate, height_buffer, height_other}
-use Rattle.df_rank.proofs.Ranked.{turns_go_over, level_over}
-use Rattle.df_lockstep.proofs.Levels.{apart}
+use Rattle.df_stages.proofs.Parts.{own_origin}
+use Rattle.df_ends.specs.Ranks.{level}
+use Rattle.df_ends.proofs.Counting.{step, rises}
+use Rattle.df_ends.proofs.Lower.{given, took_by, totals}
+use Rattle.df_ends.proofs.Ranked.{turns_go_over}
+use Rattle.df_ends.proofs.Streams.{size_next, size_here}
+use Rattle.df_lockstep.specs.Rates.{HasNoLoops, greatest, longest_source, phases_at_most}
 use Rattle.df_lockstep.proofs.Driven.{IsDriven, IsSource, source_or_driven, source_limit, end_within}
+use Rattle.df_lockstep.proofs.Levels.{level_over}
 
 -- ---- the greatest of numbers
 
@@ -46,12 +47,12 @@ greater a b = by (nat_lt a b) refl
     by true e = let l = ltb-true a b e in (omega arith, omega arith)
     by false e = let l = ltb-false a b e in (omega arith, omega arith)
 
-at_most : (f : Cell → ℕ) (cells : List Cell) (c : ℕ) → c < length cells → f (cell_at cells c) ≤ greatest 0 f cells
+at_most : (f : Cell → ℕ) (cells : List Cell) (c : ℕ) → c < length cells → f (cell_at cells c) ≤ greatest f cells
 at_most f [] c within = absurd (omega arith)
-at_most f (cell ∷ cells) zero within = (greater (f cell) (greatest 0 f cells)).0
+at_most f (cell ∷ cells) zero within = (greater (f cell) (greatest f cells)).0
 at_most f (cell ∷ cells) (suc c) within =
     let rest = at_most f cells c (omega arith) in
-    let more = (greater (f cell) (greatest 0 f cells)).1 in omega arith
+    let more = (greater (f cell) (greatest f cells)).1 in omega arith
 
 -- ---- turns of sources
 
@@ -61,7 +62,8 @@ source_has (kind.Idx lo m) values n is = (map (λ i. Int (lo +ℤ pos i)) (range
 source_has (kind.Ctl runs) values n is = (run_values runs, refl)
 source_has _ values n is = cc
 
-turn_in_order : (n : ℕ) (list : List Value) (i : ℕ) → i < length (in_order_from n list) → block_turn (get_or (turns_of (in_order_from n list)) i []) ≡ n + i
+turn_in_order : (n : ℕ) (list : List Value) (i : ℕ) → i < length (in_order_from n list)
+    → block_turn (firing_at (in_order_from n list) i).turn ≡ n + i
 turn_in_order n [] i within = absurd (omega arith)
 turn_in_order n (v ∷ list) zero within = omega arith
 turn_in_order n (v ∷ list) (suc i) within = let rest = turn_in_order (n + 1) list i (omega arith) in omega arith
@@ -92,33 +94,31 @@ no_side of.Merge p values always =
     rw (one, two) refl
 no_side _ p values always = refl
 
-right_at : (cell : Cell) (label : List Firing) (i : ℕ) → AllByRecursion (IsRight cell) (map (λ f. f.taken) label) → i < length label → IsRight cell (get_or label i no_firing).taken
-right_at cell [] i all h = absurd (omega arith)
-right_at cell (f ∷ label) zero all h = all.0
-right_at cell (f ∷ label) (suc i) all h = right_at cell label i all.1 (omega arith)
+wanted_at : (cell : Cell) (label : List Firing) (i : ℕ) → AllByRecursion (IsWanted cell) label → i < length label
+    → IsWanted cell (firing_at label i)
+wanted_at cell [] i all h = absurd (omega arith)
+wanted_at cell (f ∷ label) zero all h = all.0
+wanted_at cell (f ∷ label) (suc i) all h = wanted_at cell label i all.1 (omega arith)
 
-module _ (turns_rise : TurnsRise) (turns_shift : TurnsShift) (heights_rise : HeightsRise) (heights_stay : HeightsStay) (give : LabelsGiveHistories)
-    (cells : List Cell) (inputs : List (List Value)) (labels : Labels) (well_formed : WellFormed cells) (fits : AreValid (declarations cells) inputs)
-    (balanced : IsBalanced cells) (free : HasNoLoops cells) (meet : LabelsMeet cells inputs labels) where
-  -- the turn of a firing, and for a BUF cell the turn of the gate from which its value comes
+module _ (heights_rise : HeightsRise) (heights_stay : HeightsStay) (cells : List Cell) (inputs : List (List Value))
+    (n : ℕ) (labels : Labels) (well_formed : WellFormed cells) (balanced : IsBalanced cells) (free : HasNoLoops cells)
+    (meet : LabelsMeet cells inputs n labels) (places : HasPlaces cells labels) where
+  -- the turn of a firing, and for a BUF cell the turn of the gate from which its member comes
   abbrev full_turn : ℕ → ℕ → ℕ
   full_turn c i = block_turn (turn_at labels c i) + cond (is_buf cells c) (gate_part cells (origin cells c)) 0
 
-  counts : (c n : ℕ) → source_length (cell_at cells c).kind ≡ Some n → length (labels c) ≡ n
-  counts c n is =
-      let e = (give cells inputs labels well_formed fits meet).whole.counts c n (source_limit (cell_at cells c).kind n is) in
-      let l = length-map (labels c) (λ (f : Firing). f.taken) in omega arith
-
-  source_turn : (c i : ℕ) → c < length cells → i < length (labels c) → IsSource cells c → full_turn c i < longest_source cells
+  source_turn : (c i : ℕ) → c < length cells → i < length (labels c) → IsSource cells c
+      → full_turn c i < longest_source cells
   source_turn c i within left source =
-      let n = source.0 in
-      let count = counts c n source.1 in
-      let has = source_has (cell_at cells c).kind (values_of cells inputs c) n source.1 in
-      let all = (meet c).sources has.0 has.1 in
-      let here = ap (λ (l : List Firing). block_turn (get_or (turns_of l) i [])) all in
+      let m = source.0 in
+      let count = (meet c).counts m (source_limit (cell_at cells c).kind m source.1) in
+      let has = source_has (cell_at cells c).kind (values_of cells inputs c) m source.1 in
+      let all = (meet c).source has.0 has.1 in
+      let here = ap (λ (l : List Firing). block_turn (firing_at l i).turn) all in
       let inside : i < length (in_order_from 0 has.0) = let e = ap (λ (l : List Firing). length l) all in omega arith in
       let at = turn_in_order 0 has.0 i inside in
-      let none = ap (λ (b : Bool). cond b (gate_part cells (origin cells c)) 0) (not_buffer (cell_at cells c).kind n source.1) in
+      let none = ap (λ (b : Bool). cond b (gate_part cells (origin cells c)) 0)
+      (not_buffer (cell_at cells c).kind m source.1) in
       let most = at_most (λ cell. number_or_none (source_length cell.kind)) cells c within in
       let num = ap number_or_none source.1 in
       omega arith
@@ -140,15 +140,19 @@ module _ (turns_rise : TurnsRise) (turns_shift : TurnsShift) (heights_rise : Hei
       let p = driven.port in let u = driven.from in
       let d = port_of c p in
       let cell = cell_at cells c in
-      let right = right_at cell (labels c) i ((give cells inputs labels well_formed fits meet).consistent.right c) left in
-      let some : is_some (get_or (get_or (labels c) i no_firing).taken p None) ≡ true =
-      right.takes p ∙ ap (λ (g : Option CellId). is_some g && wants cell.kind (with_constants cell (get_or (labels c) i no_firing).taken) p) driven.fed
-      ∙ driven.always (with_constants cell (get_or (labels c) i no_firing).taken) in
-      let unloaded = ap (λ (o : Option Value). length (listed o)) ((meet c).unloaded p) in
-      let one = size_here (λ f. get_or f.taken p None) (labels c) i no_firing left some in
-      let all = totals cells inputs labels meet d u driven.fed in
-      let up = rises (took_by labels d) (suc i) (length (labels c)) (λ k. (size_next (λ f. get_or f.taken p None) (labels c) k).0) (omega arith) in
-      let r = step (given labels u.0) 0 (length (labels u.0)) (took_by labels d i) (λ k. (size_next (λ f. f.answer) (labels u.0) k).1) (omega arith) (omega arith) (omega arith) in
+      let here = with_constants cell (values (firing_at (labels c) i).taken) in
+      let some : is_some (get_or (firing_at (labels c) i).taken p None) ≡ true =
+      (wanted_at cell (labels c) i (meet c).wanted left).takes p
+      ∙ ap (λ (g : Option CellId). is_some g && wants cell.kind here p) driven.fed
+      ∙ driven.always here in
+      let unloaded = ap (λ (o : Option Value). length (listed o)) (places.unloaded d) in
+      let one = size_here (λ f. get_or f.taken p None) (labels c) i (firing_at [] 0) left some in
+      let all = totals cells inputs n labels meet d u driven.fed in
+      let up = rises (took_by labels d) (suc i) (length (labels c))
+      (λ k. (size_next (λ f. get_or f.taken p None) (labels c) k).0) (omega arith) in
+      let r = step (given labels u.0) 0 (length (labels u.0)) (took_by labels d i)
+      (λ k. (size_next (λ f. f.answer) (labels u.0) k).1) (omega arith) (omega arith) (omega arith) in
+      let same = r.3 in let next = r.4 in
       record {
         d = d;
         at = refl;
@@ -156,7 +160,7 @@ module _ (turns_rise : TurnsRise) (turns_shift : TurnsShift) (heights_rise : Hei
         fed = driven.fed;
         j = r.0;
         inside = r.2;
-        pair = pairs cells labels d u.0 r.0 i unloaded (r.4 ∙ ap suc (sym r.3)) one r.3;
+        pair = record { gives = omega (arith, same, next); takes = one; same = omega (arith, unloaded, same) };
         none = no_side (family cell.kind) p (controls cells c) driven.always;
       }
 
@@ -169,31 +173,44 @@ module _ (turns_rise : TurnsRise) (turns_shift : TurnsShift) (heights_rise : Hei
 
       shift : block_turn (turn_at labels c i) + gate_part cells u.0 ≡ block_turn (turn_at labels u.0 x.j)
       shift =
-          let e = turns_go_over turns_rise turns_shift cells inputs labels meet x.d u x.j i x.fed (subst (λ k. Pairs cells labels x.d u.0 x.j i) x.at x.pair) in
+          let e = turns_go_over cells inputs n labels meet places x.d u x.j i x.fed x.pair in
           let at = ap (λ k. block_turn (turn_at labels k i)) x.at in
           let none = x.none in
           omega arith
 
-      part : (k : ℕ) (b : Bool) → is_buf cells k ≡ b → cond (is_buf cells k) (gate_part cells (origin cells k)) 0 ≡ cond b (gate_part cells (origin cells k)) 0
+      part : (k : ℕ) (b : Bool) → is_buf cells k ≡ b
+          → cond (is_buf cells k) (gate_part cells (origin cells k)) 0
+          ≡ cond b (gate_part cells (origin cells k)) 0
       part k b e = ap (λ t. cond t (gate_part cells (origin cells k)) 0) e
 
       within : c < length cells
       within = subst (λ k. k < length cells) x.at (end_within cells x.d u x.fed)
 
-      by : (is_buf cells c ≡ true) ⊎ (is_buf cells c ≡ false) → (is_buf cells u.0 ≡ true) ⊎ (is_buf cells u.0 ≡ false) → full_turn c i ≤ full_turn u.0 x.j
+      by : (is_buf cells c ≡ true) ⊎ (is_buf cells c ≡ false)
+          → (is_buf cells u.0 ≡ true) ⊎ (is_buf cells u.0 ≡ false)
+          → full_turn c i ≤ full_turn u.0 x.j
       by (inr other) both = let s = shift in let p = part c false other in omega arith
       by (inl buf) both =
-          let fed = buffer_fed cells well_formed balanced x.d u (subst (λ k. is_buf cells k ≡ true) (sym x.at) buf) x.fed in
-          let fed' : producer_of cells (port_of c 0) ≡ Some u = subst (λ k. producer_of cells (port_of k 0) ≡ Some u) x.at fed in
+          let fed = buffer_fed cells well_formed balanced x.d u
+          (subst (λ k. is_buf cells k ≡ true) (sym x.at) buf) x.fed in
+          let fed' : producer_of cells (port_of c 0) ≡ Some u =
+          subst (λ k. producer_of cells (port_of k 0) ≡ Some u) x.at fed in
           let o = ap (gate_part cells) (buffer_origin cells well_formed c u within buf fed') in
           let s = shift in
           let p = part c true buf in
           elim both [
-            | inl again ↦ let q = part u.0 true again in let none = no_gate cells well_formed balanced u.0 again in omega arith
-            | inr first ↦ let q = part u.0 false first in let own = ap (gate_part cells) (own_origin cells u.0 first) in omega arith
+            | inl again ↦
+                let q = part u.0 true again in
+                let none = no_gate cells well_formed balanced u.0 again in
+                omega arith
+            | inr first ↦
+                let q = part u.0 false first in
+                let own = ap (gate_part cells) (own_origin cells u.0 first) in
+                omega arith
           ]
 
-  turns_short : (r c i : ℕ) → level cells labels c i < r → c < length cells → i < length (labels c) → full_turn c i < longest_source cells
+  turns_short : (r c i : ℕ) → level cells labels c i < r → c < length cells → i < length (labels c)
+      → full_turn c i < longest_source cells
   turns_short zero c i below within left = absurd (omega arith)
   turns_short (suc r) c i below within left = elim (source_or_driven cells c well_formed within) [
     | inl source ↦ source_turn c i within left source
@@ -201,16 +218,16 @@ module _ (turns_rise : TurnsRise) (turns_shift : TurnsShift) (heights_rise : Hei
         let x = feeds c i left driven in
         let u = x.from in
         let inside = (well_formed.port x.d.cell.0 (end_within cells x.d u x.fed)).feeds x.d.port.0 u x.fed in
-        let pair : Pairs cells labels x.d u.0 x.j i = x.pair in
-        let up = level_over turns_rise turns_shift cells inputs labels meet heights_rise well_formed balanced x.d u x.j i x.fed (apart heights_stay cells well_formed balanced free x.d u x.fed) pair in
+        let up = level_over heights_rise heights_stay cells inputs n labels well_formed balanced free meet places x.d u
+        x.j i x.fed x.pair in
         let at = ap (λ k. level cells labels k i) x.at in
         let rest = turns_short r u.0 x.j (omega arith) inside x.inside in
         let le = turn_falls c i x in
         omega arith
   ]
 
-  pub level_small : (c i : ℕ) → c < length cells → i < length (labels c) → level cells labels c i < phases_at_most cells
-  unfolding level
+  pub level_small : (c i : ℕ) → c < length cells → i < length (labels c)
+      → level cells labels c i < phases_at_most cells
   level_small c i within left =
       let short = turns_short (suc (level cells labels c i)) c i (omega arith) within left in
       let most = at_most (λ cell. cell.stage) cells c within in

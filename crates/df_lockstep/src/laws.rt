@@ -2,10 +2,9 @@
 ghost use Rattle.df_lockstep.specs.Laws.{PhasesAreRuns, PhasesAreQuiet, PhasesKeepRanks};
 ghost use Rattle.df_lockstep.specs.Laws.{KeepsFullRate, DrainsInTime, WholeInTime};
 
-use df_histories::laws::follows_labels;
-use df_labels::laws::{labels_give_histories, turns_rise, turns_shift};
+use df_ends::laws::{realizing_for_all_is_good, waits_for_lower_rank};
 use df_machine::laws::joins_runs;
-use df_rank::laws::{realizing_cells_are_good, waits_for_lower};
+use df_members::laws::follows_members;
 use df_stages::laws::{heights_rise, heights_stay};
 
 /// A run in phases is a run by choices.
@@ -25,7 +24,7 @@ pub fn phases_keep_ranks()
     ensures { PhasesKeepRanks }
 {
     phases_are_runs();
-    waits_for_lower();
+    waits_for_lower_rank();
 }
 
 /// Without loops the firing of turn t happens in a phase of number at most its cell's stage and twice t.
@@ -33,8 +32,6 @@ pub fn keeps_full_rate()
     ensures { KeepsFullRate }
 {
     phases_keep_ranks();
-    turns_rise();
-    turns_shift();
     heights_rise();
     heights_stay();
 }
@@ -45,12 +42,9 @@ pub fn drains_in_time()
 {
     phases_are_runs();
     phases_keep_ranks();
-    turns_rise();
-    turns_shift();
     heights_rise();
     heights_stay();
-    labels_give_histories();
-    follows_labels();
+    follows_members();
 }
 
 /// And the results of cells that realize a meaning are then whole.
@@ -59,5 +53,5 @@ pub fn whole_in_time()
 {
     phases_are_runs();
     drains_in_time();
-    realizing_cells_are_good();
+    realizing_for_all_is_good();
 }

@@ -1,19 +1,19 @@
 //! Phases of a run in lock step.
 ghost use Rattle.std.specs.Prelude.{◌≡◌, ◌≢◌, ◌≤◌, ◌<◌, ◌↔◌, ◌++◌, ℕ, List, [], length, replicate, IsTrue};
 ghost use Rattle.std.specs.Bool.{OnTrue, OnFalse};
-ghost use Rattle.df_labels.specs.Labels.{Labels, LabelsMeet};
-ghost use Rattle.df_stages.specs.Balance.{IsBalanced};
+ghost use Rattle.df_labels.specs.Members.{Labels};
 ghost use Rattle.df_machine.specs.Events.{enabled, possible};
 ghost use Rattle.df_machine.specs.Runs.{after};
 ghost use Rattle.df_histories.specs.Reached.{IsAfter};
-ghost use Rattle.df_rank.specs.Good.{HasLabelResults, HasWholeResults};
+ghost use Rattle.df_ends.specs.Good.{HasLabelResults, HasWholeResults};
 ghost use Rattle.df_lockstep.specs.Phases.{after_phases, choices_of_phases, flight_choices, phase_choices};
-ghost use Rattle.df_lockstep.specs.Rates.{HasNoLoops, phases_at_most};
+ghost use Rattle.df_lockstep.specs.Rates.{phases_at_most};
+ghost use Rattle.df_lockstep.specs.Laws.{Covers};
 
 use crate::laws::{drains_in_time, phases_are_runs};
+use df_ends::tracked::drained;
 use df_histories::tracked::Tracked;
 use df_machine::laws::{joins_runs, tells_possible};
-use df_rank::tracked::drained;
 
 /// Lets all enabled cells fire, and tells how many they were.
 fn fire_all(t: &mut Tracked) -> u32
@@ -101,9 +101,9 @@ pub fn lockstep(t: &mut Tracked, limit: u64) -> LockEnd
     ensures stopped { OnFalse result.drained (result.phases ≡ limit) }
     ensures labels { OnTrue result.drained (HasLabelResults t.new) }
     ensures whole { OnTrue result.drained (HasWholeResults t.new) }
-    // Balanced cells without loops that have labels take no more phases than the bound, and are drained then.
-    ensures in_time { (labels : Labels) → IsBalanced t.old.cells → HasNoLoops t.old.cells
-        → LabelsMeet t.old.cells t.old.inputs labels
+    // Balanced cells without loops that have labels for more firings than these phases have events take no more phases
+    // than the bound, and are drained then.
+    ensures in_time { (n : ℕ) (labels : Labels) → Covers t.old.cells t.old.inputs n labels
         → (result.phases ≤ phases_at_most t.old.cells) × (phases_at_most t.old.cells ≤ limit → IsTrue result.drained) }
 {
     tells_possible();

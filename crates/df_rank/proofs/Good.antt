@@ -10,15 +10,12 @@ use Rattle.df_cells.specs.Cells.{cell_at, declarations, outputs}
 use Rattle.df_cells.specs.WellFormed.{WellFormed}
 use Rattle.df_machine.specs.Events.{possible}
 use Rattle.df_machine.specs.Runs.{after}
-use Rattle.df_machine.specs.Seen.{Loaded}
 use Rattle.df_labels.specs.Histories.{IsPrefix}
-use Rattle.df_histories.specs.Reached.{IsReached}
 use Rattle.df_stages.specs.Balance.{IsBalanced}
-use Rattle.df_machine.specs.Laws.{TellsPossible, HasAllResults}
+use Rattle.df_machine.specs.Laws.{HasAllResults}
 use Rattle.df_histories.specs.Laws.{NeverClashes, FollowsLabels, ResultsHaveOutputs}
 use Rattle.df_rank.specs.Ranks.{rank}
 use Rattle.df_labels.specs.Realizes.{Outcome, Meaning, count_of, IsAll, Realizes}
-use Rattle.df_rank.specs.Good.{HoldsAll, HasLabelResults, HasWholeResults}
 use Rattle.df_rank.specs.Laws.{RankedRunsEndWhole, BalancedCellsAreRanked, DrainsWhole, RealizingCellsAreFaithful, RealizingCellsAreGood}
 
 pub drains_whole : BalancedCellsAreRanked → RankedRunsEndWhole → DrainsWhole
@@ -68,18 +65,3 @@ realizing_cells_are_good faithful drains all outs cells meaning w balanced reali
   faithful = faithful cells meaning w realizes;
   whole = λ inputs choices k fits none. whole_result drains all outs cells meaning w balanced realizes inputs choices k fits none;
 }
-
--- ---- of a tracked machine
-
-possible_here : TellsPossible → (t : Loaded) (reached : IsReached t) → possible t.cells t.state ≡ 0 → possible t.cells (after t.cells t.inputs reached.choices) ≡ 0
-possible_here tells t reached none = sym (tells t.cells t.inputs reached.choices reached.well_formed) ∙ subst (λ s. possible t.cells s ≡ 0) reached.after_these none
-
-pub label_results : TellsPossible → DrainsWhole → (t : Loaded) → IsReached t → possible t.cells t.state ≡ 0 → HasLabelResults t
-label_results tells drains t reached none labels balanced meet places =
-    subst (HoldsAll t.cells labels) (sym reached.after_these)
-    (drains t.cells t.inputs labels reached.choices reached.well_formed reached.fits balanced meet places (possible_here tells t reached none))
-
-pub whole_results : TellsPossible → RealizingCellsAreGood → (t : Loaded) → IsReached t → possible t.cells t.state ≡ 0 → HasWholeResults t
-whole_results tells good t reached none meaning balanced realizes k =
-    subst (λ s. IsAll (get_or s.results k []) (meaning t.inputs) k) (sym reached.after_these)
-    ((good t.cells meaning reached.well_formed balanced realizes).whole t.inputs reached.choices k reached.fits (possible_here tells t reached none))

@@ -5,15 +5,12 @@ use Rattle.df_values.specs.Inputs.{AreValid}
 use Rattle.df_cells.specs.declared.cells.Cell.{Cell}
 use Rattle.df_cells.specs.declared.kinds.Kind.TheVariants as kind
 use Rattle.df_cells.specs.Cells.{cell_at, declarations}
-use Rattle.df_labels.specs.Labels.{Labels, LabelsMeet, received, stream_values}
+use Rattle.df_labels.specs.Labels.{Labels, received, stream_values}
 use Rattle.df_histories.specs.Faithful.{IsFaithful}
 use Rattle.df_machine.specs.Events.{possible}
 use Rattle.df_machine.specs.Runs.{after}
-use Rattle.df_machine.specs.Seen.{Loaded}
 use Rattle.df_machine.specs.States.{State}
-use Rattle.df_stages.specs.Balance.{IsBalanced}
-use Rattle.df_labels.specs.Places.{HasPlaces}
-use Rattle.df_labels.specs.Realizes.{Meaning, IsAll, Realizes}
+use Rattle.df_labels.specs.Realizes.{Meaning, IsAll}
 
 -- Cells are faithful to a meaning, and whenever no event is possible, each result is all of it.
 pub record IsGood (cells : List Cell) (meaning : Meaning) : Type 0 where
@@ -24,11 +21,3 @@ pub record IsGood (cells : List Cell) (meaning : Meaning) : Type 0 where
 -- each result is all that its OUT takes in the label
 abbrev pub HoldsAll : List Cell → Labels → State → Type 0
 HoldsAll cells labels s = (c k m : ℕ) → (cell_at cells c).kind ≡ kind.Out k m → get_or s.results (k - 1) [] ≡ stream_values (received 0 (labels c))
-
--- the results are those of all labels that meet the cells, which are balanced, and the inputs, where loops have places
-abbrev pub HasLabelResults : Loaded → Type 0
-HasLabelResults t = (labels : Labels) → IsBalanced t.cells → LabelsMeet t.cells t.inputs labels → HasPlaces t.cells labels → HoldsAll t.cells labels t.state
-
--- the results are those of all meanings that the cells, which are balanced, realize
-abbrev pub HasWholeResults : Loaded → Type 0
-HasWholeResults t = (meaning : Meaning) → IsBalanced t.cells → Realizes t.cells meaning → (k : ℕ) → IsAll (get_or t.state.results k []) (meaning t.inputs) k

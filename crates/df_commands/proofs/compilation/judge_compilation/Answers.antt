@@ -10,7 +10,7 @@ returns-in_err-tree-clause-reads c =
 
 pub returns-in-Ok-clause-compiled : goal.returns-in-Ok-clause-compiled
 returns-in-Ok-clause-compiled c =
-    compiled_source c.cells_of_sources_are_good.ensures c.inputs_are_named.ensures c.args.text.now _ _ _ _ c.in_ok-tree.ensures.reads.0 c.in_ok-tree.ensures.flat c.in-Ok.ensures.compiled
+    compiled_source c.cells_of_sources_are_good.ensures c.cells_of_sources_are_in_time.ensures c.inputs_are_named.ensures c.args.text.now _ _ _ _ c.in_ok-tree.ensures.reads.0 c.in_ok-tree.ensures.flat c.in-Ok.ensures.compiled
 
 pub returns-in-Err-TooManyCells-clause-reads : goal.returns-in-Err-TooManyCells-clause-reads
 returns-in-Err-TooManyCells-clause-reads c =

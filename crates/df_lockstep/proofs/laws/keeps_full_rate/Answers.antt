@@ -4,8 +4,6 @@ use Rattle.df_lockstep.proofs.laws.keeps_full_rate.Goals as goal
 pub returns : goal.returns
 returns c = keeps_full_rate (record {
   keeps = c.phases_keep_ranks.ensures;
-  turns_rise = c.turns_rise.ensures;
-  turns_shift = c.turns_shift.ensures;
   heights_rise = c.heights_rise.ensures;
   heights_stay = c.heights_stay.ensures;
 })

@@ -29,7 +29,7 @@ returns-clause-state c =
 pub returns-clause-in_time : goal.returns-clause-in_time
 returns-clause-in_time c =
     in_time c.tells_possible.ensures c.phases_are_runs.ensures c.drains_in_time.ensures c.args.t.now c.loop-phases.t c.loop-phases.phases c.loop-phases.events c.args.limit c.drained.result
-    (c.machine-machine.ensures.reached).well_formed (c.machine-machine.ensures.reached).fits c.loop-phases.invariant.0 c.drained.ensures.exact.1
+    (c.machine-machine.ensures.reached).well_formed c.loop-phases.invariant.0 c.drained.ensures.exact.1
     (elim c.loop-phases-test.branch [
       | then-loop-phases-test+else-possible-ne0 w ↦ inr (sym (w.possible.ensures ∙ ap (λ (m : Loaded). possible m.cells m.state) w.machine.ensures.machine) ∙ w.if-possible-ne0.false)
       | else-loop-phases-test w ↦ inl (let t = w.loop-phases-test in omega (arith, t))
