@@ -21,10 +21,10 @@ use Rattle.df_labels.proofs.Firings.{wants_first}
 use Rattle.df_labels.specs.Members.{Member, Firing, Labels, LabelsMeet, IsWanted, sure, values, received, members}
 use Rattle.df_members.proofs.Following.{out_fed, out_within}
 use Rattle.df_members.specs.Laws.{FollowsMembers}
-use Rattle.df_ends.specs.Ranks.{is_lower, HasRanks}
+use Rattle.df_rank.specs.Ranks.{is_lower, HasRanks}
 use Rattle.df_ends.specs.Laws.{WaitsForLowerRank, EndsWhole}
 use Rattle.df_ends.proofs.Order.{least}
-use Rattle.df_ends.proofs.Streams.{size_each}
+use Rattle.df_rank.proofs.Streams.{size_each}
 
 -- a firing of a cell whose first port an arc feeds takes a member there
 first_taken : (cell : Cell) → is_some (cell_from (slice_get cell.ports 0)) ≡ true → (label : List Firing)

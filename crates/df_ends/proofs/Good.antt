@@ -21,9 +21,9 @@ use Rattle.df_labels.specs.Members.{Member, sure}
 use Rattle.df_members.specs.Laws.{FollowsMembers}
 use Rattle.df_labels.specs.ForAll.{MemberOutcome, IsAllMembers}
 use Rattle.df_ends.specs.Good.{HoldsAll, HasLabelResults, HasWholeResults}
-use Rattle.df_ends.specs.Ranks.{rank_of}
-use Rattle.df_ends.specs.Laws.{EndsWhole, BalancedCellsHaveRanks, RealizingForAllIsFaithful, RealizingForAllIsGood}
-use Rattle.df_ends.specs.Laws.{EndlessRunsGoOn}
+use Rattle.df_rank.specs.Ranks.{rank_of}
+use Rattle.df_rank.specs.Laws.{BalancedCellsHaveRanks}
+use Rattle.df_ends.specs.Laws.{EndsWhole, RealizingForAllIsFaithful, RealizingForAllIsGood, EndlessRunsGoOn}
 
 -- what holds at each OUT, and of nothing, holds of each result
 each_result : HasAllResults → ResultsHaveOutputs

@@ -1,9 +1,6 @@
-pub mod Counting
-pub mod Streams
 pub mod Order
 pub mod Lower
 pub mod Ends
-pub mod Ranked
 pub mod Good
 pub mod OfValues
 pub mod Late

@@ -25,10 +25,10 @@ use Rattle.df_labels.specs.Members.{Member, Labels, LabelsMeet, sure, answered, 
 use Rattle.df_members.specs.Following.{Follows, fired_so_far}
 use Rattle.df_members.specs.Laws.{FollowsMembers}
 use Rattle.df_labels.specs.Members.{Pairs}
-use Rattle.df_ends.specs.Ranks.{is_lower, IsLower, HasRanks}
+use Rattle.df_rank.specs.Ranks.{is_lower, IsLower, HasRanks}
 use Rattle.df_ends.specs.Laws.{WaitsForLowerRank}
-use Rattle.df_ends.proofs.Counting.{step, rises}
-use Rattle.df_ends.proofs.Streams.{size, size_next, size_here, size_all, size_most, size_each}
+use Rattle.df_rank.proofs.Counting.{step, rises}
+use Rattle.df_rank.proofs.Streams.{size, size_next, size_here, size_all, size_most, size_each}
 use Rattle.df_ends.proofs.Order.{lower_through}
 
 -- a run that has come to a state without packets, and labels that it follows

@@ -4,7 +4,7 @@ use Rattle.std.proofs.Common.{sym, ◌∙◌, ap, subst, inl, inr, arith}
 use Rattle.std.proofs.lemmas.Bool.{cases_Bool, cases_eq, both_ways, eqb-true, eq-eqb, and_parts, and_cases, and_from}
 use Rattle.std.proofs.lemmas.Bool.{or_cases, or_left, or_right, and_right, or_from, lt-ltb, ltb-true}
 use Rattle.std.proofs.lemmas.Bool.{false_from_ne_true}
-use Rattle.df_ends.specs.Ranks.{is_lower, IsLower}
+use Rattle.df_rank.specs.Ranks.{is_lower, IsLower}
 
 pub lower_self : (r : List ℕ) → is_lower r r ≡ false
 lower_self [] = refl

@@ -22,7 +22,11 @@ use Rattle.df_labels.specs.MemberPlaces.{HasPlaces}
 use Rattle.df_machine.specs.Runs.{after, events}
 use Rattle.df_ends.specs.OfValues.{firing_of, of_values}
 use Rattle.df_labels.specs.Finishing.{HasNoBuffers}
-use Rattle.df_ends.specs.Laws.{LabelsOfValuesMeet, RealizingCellsRealizeForAll, GoodForAllIsGood}
+use Rattle.df_labels.specs.ForAll.{for_all}
+use Rattle.df_rank.specs.Hold.{hold, held}
+use Rattle.df_rank.specs.Laws.{HoldRealizes}
+use Rattle.df_ends.specs.Laws.{LabelsOfValuesMeet, RealizingCellsRealizeForAll, RealizingForAllIsGood, GoodForAllIsGood}
+use Rattle.df_ends.specs.Laws.{HoldIsGood}
 use Rattle.df_ends.proofs.OfValues.{stream_of, answered_of, received_of, members_of}
 use Rattle.df_ends.proofs.Late.{late_enough}
 
@@ -174,3 +178,18 @@ good_for_all_is_good cells meaning good = record {
       let all = good.whole inputs choices (suc (events cells inputs choices)) k fits (omega arith) none in
       values_alone (get_or (after cells inputs choices).results k []) (meaning inputs) k all;
 }
+
+-- ---- a held value
+
+no_buffers : HasNoBuffers hold
+no_buffers zero within = refl
+no_buffers (suc zero) within = refl
+no_buffers (suc (suc zero)) within = refl
+no_buffers (suc (suc (suc zero))) within = refl
+no_buffers (suc (suc (suc (suc zero)))) within = refl
+no_buffers (suc (suc (suc (suc (suc zero))))) within = refl
+no_buffers (suc (suc (suc (suc (suc (suc c)))))) within = absurd (omega (arith, within))
+
+pub hold_is_good : HoldRealizes → RealizingCellsRealizeForAll → RealizingForAllIsGood → HoldIsGood
+hold_is_good hold' for_every good =
+    good hold (for_all held) hold'.0 hold'.1 (for_every hold held hold'.0 no_buffers hold'.2)

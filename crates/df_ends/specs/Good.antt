@@ -13,6 +13,8 @@ use Rattle.df_stages.specs.Balance.{IsBalanced}
 use Rattle.df_labels.specs.Members.{Labels, LabelsMeet, sure, received, members}
 use Rattle.df_labels.specs.MemberPlaces.{HasPlaces}
 use Rattle.df_labels.specs.ForAll.{MeaningForAll, BeginsMembers, IsAllMembers, RealizesForAll}
+use Rattle.df_labels.specs.Realizes.{Meaning, IsAll}
+use Rattle.df_histories.specs.Faithful.{IsFaithful}
 use Rattle.df_histories.specs.Reached.{IsAfter}
 
 -- For all valid inputs, every list of choices and every n above the number of its events: no event on the way is a
@@ -35,6 +37,15 @@ pub record IsGoodForAll (cells : List Cell) (meaning : MeaningForAll) : Type 0 w
   pub full : (inputs : List (List Value)) (choices : List ℕ) (c k m : ℕ) → AreValid (declarations cells) inputs
       → possible cells (after cells inputs choices) ≡ 0 → (cell_at cells c).kind ≡ kind.Out k m
       → length (get_or (after cells inputs choices).results (k - 1) []) ≡ m
+
+-- ---- by a meaning of values
+
+-- Cells are faithful to a meaning, and whenever no event is possible, each result is all of it.
+pub record IsGood (cells : List Cell) (meaning : Meaning) : Type 0 where
+  pub faithful : IsFaithful cells meaning
+  pub whole : (inputs : List (List Value)) (choices : List ℕ) (k : ℕ) → AreValid (declarations cells) inputs
+      → possible cells (after cells inputs choices) ≡ 0
+      → IsAll (get_or (after cells inputs choices).results k []) (meaning inputs) k
 
 -- ---- of one machine
 

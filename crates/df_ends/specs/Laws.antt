@@ -13,14 +13,13 @@ use Rattle.df_machine.specs.Events.{possible, is_enabled}
 use Rattle.df_machine.specs.Runs.{after, events}
 use Rattle.df_machine.specs.States.{firings}
 use Rattle.df_labels.specs.Members.{Labels, LabelsMeet, sure, received, members}
-use Rattle.df_rank.specs.Good.{IsGood}
 use Rattle.df_stages.specs.Balance.{IsBalanced}
 use Rattle.df_ends.specs.OfValues.{of_values}
 use Rattle.df_labels.specs.Finishing.{HasNoBuffers}
-use Rattle.df_ends.specs.Ranks.{HasRanks, IsLower, rank_of}
+use Rattle.df_rank.specs.Ranks.{HasRanks, IsLower}
+use Rattle.df_rank.specs.Hold.{hold, held}
 use Rattle.df_labels.specs.ForAll.{MeaningForAll, RealizesForAll, for_all}
-use Rattle.df_labels.specs.MemberPlaces.{HasPlaces}
-use Rattle.df_ends.specs.Good.{IsFaithfulForAll, IsGoodForAll}
+use Rattle.df_ends.specs.Good.{IsFaithfulForAll, IsGoodForAll, IsGood}
 
 -- ---- how runs end
 
@@ -48,12 +47,6 @@ EndsWhole = (cells : List Cell) (inputs : List (List Value)) (n : ℕ) (labels :
     × ((c k m : ℕ) → (cell_at cells c).kind ≡ kind.Out k m
     → (sure (get_or (after cells inputs choices).results (k - 1) []) ≡ members (received 0 (labels c)))
     × (length (get_or (after cells inputs choices).results (k - 1) []) ≡ m))
-
--- In balanced cells, where loops have places, what a firing waits for has a lower rank.
-abbrev pub BalancedCellsHaveRanks : Type 0
-BalancedCellsHaveRanks = (cells : List Cell) (inputs : List (List Value)) (n : ℕ) (labels : Labels)
-    → WellFormed cells → IsBalanced cells → LabelsMeet cells inputs n labels
-    → (places : HasPlaces cells labels) → HasRanks cells labels (rank_of cells labels places.place)
 
 -- Cells that realize a meaning for every number of firings are faithful to it, and balanced ones are good.
 abbrev pub RealizingForAllIsFaithful : Type 0
@@ -88,3 +81,7 @@ RealizingCellsRealizeForAll = (cells : List Cell) (meaning : Meaning) → WellFo
 abbrev pub GoodForAllIsGood : Type 0
 GoodForAllIsGood = (cells : List Cell) (meaning : Meaning) → IsGoodForAll cells (for_all meaning)
     → IsGood cells meaning
+
+-- A held value, which is a loop, is such a case.
+abbrev pub HoldIsGood : Type 0
+HoldIsGood = IsGoodForAll hold (for_all held)

@@ -1,4 +1,3 @@
-pub mod Ranks
 pub mod OfValues
 pub mod Good
 pub mod Laws

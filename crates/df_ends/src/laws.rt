@@ -1,13 +1,13 @@
 //! How runs end.
 ghost use Rattle.df_ends.specs.Laws.{WaitsForLowerRank, EndsWhole, EndlessRunsGoOn};
 ghost use Rattle.df_ends.specs.Laws.{RealizingForAllIsFaithful, RealizingForAllIsGood, GoodForAllIsGood};
-ghost use Rattle.df_ends.specs.Laws.{BalancedCellsHaveRanks, LabelsOfValuesMeet, RealizingCellsRealizeForAll};
+ghost use Rattle.df_ends.specs.Laws.{LabelsOfValuesMeet, RealizingCellsRealizeForAll, HoldIsGood};
 
 use df_histories::laws::{never_clashes, results_have_outputs};
 use df_labels::laws::{first_firings_agree, labels_give_histories};
 use df_machine::laws::{disabled_cells_wait, has_all_results, nothing_is_possible};
 use df_members::laws::follows_members;
-use df_stages::laws::{heights_rise, heights_stay};
+use df_rank::laws::{balanced_cells_have_ranks, hold_realizes};
 
 /// A cell that is not enabled, where no packet is in flight, waits for a firing of lower rank.
 pub fn waits_for_lower_rank()
@@ -24,14 +24,6 @@ pub fn ends_whole()
     waits_for_lower_rank();
     follows_members();
     nothing_is_possible();
-}
-
-/// In balanced cells, where loops have places, firings have ranks.
-pub fn balanced_cells_have_ranks()
-    ensures { BalancedCellsHaveRanks }
-{
-    heights_rise();
-    heights_stay();
 }
 
 /// Cells that realize a meaning for every number of firings are faithful to it.
@@ -79,3 +71,12 @@ pub fn realizing_cells_realize_for_all()
 pub fn good_for_all_is_good()
     ensures { GoodForAllIsGood }
 {}
+
+/// A held value, which is a loop, is such a case.
+pub fn hold_is_good()
+    ensures { HoldIsGood }
+{
+    hold_realizes();
+    realizing_cells_realize_for_all();
+    realizing_for_all_is_good();
+}

@@ -15,9 +15,9 @@ use Rattle.df_members.specs.Laws.{FollowsMembers}
 use Rattle.df_stages.specs.Balance.{stage_of, IsBalanced}
 use Rattle.df_stages.specs.Laws.{HeightsRise, HeightsStay}
 use Rattle.df_stages.proofs.Heights.{height_other}
-use Rattle.df_ends.specs.Ranks.{level}
+use Rattle.df_rank.specs.Ranks.{level}
 use Rattle.df_ends.specs.Laws.{RealizingForAllIsGood}
-use Rattle.df_ends.proofs.Counting.{rises}
+use Rattle.df_rank.proofs.Counting.{rises}
 use Rattle.df_lockstep.specs.Phases.{after_phases, choices_of_phases}
 use Rattle.df_lockstep.specs.Rates.{HappensBy, phases_at_most, events_in_time}
 use Rattle.df_lockstep.specs.Laws.{PhasesAreRuns, PhasesKeepRanks, Covers, KeepsFullRate, DrainsInTime, WholeInTime}

@@ -15,8 +15,8 @@ use Rattle.df_labels.specs.MemberPlaces.{HasPlaces}
 use Rattle.df_stages.specs.Nodes.{same_node}
 use Rattle.df_stages.specs.Balance.{IsBalanced}
 use Rattle.df_stages.specs.Laws.{HeightsRise, HeightsStay}
-use Rattle.df_ends.specs.Ranks.{level, IsLower}
-use Rattle.df_ends.proofs.Ranked.{level_rises, turns_go_over}
+use Rattle.df_rank.specs.Ranks.{level, IsLower}
+use Rattle.df_rank.proofs.Ranked.{level_rises, turns_go_over}
 use Rattle.df_lockstep.specs.Rates.{HasNoLoops, HasNumbers}
 
 lower_number : (a b : ℕ) → a < b → IsLower (a ∷ []) (b ∷ [])

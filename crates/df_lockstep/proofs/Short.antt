@@ -29,11 +29,11 @@ use Rattle.df_stages.specs.Balance.{IsBalanced}
 use Rattle.df_stages.specs.Laws.{HeightsRise, HeightsStay}
 use Rattle.df_stages.proofs.Heights.{buffer_fed, buffer_origin, no_gate, height_buffer, height_other}
 use Rattle.df_stages.proofs.Parts.{own_origin}
-use Rattle.df_ends.specs.Ranks.{level}
-use Rattle.df_ends.proofs.Counting.{step, rises}
+use Rattle.df_rank.specs.Ranks.{level}
+use Rattle.df_rank.proofs.Counting.{step, rises}
 use Rattle.df_ends.proofs.Lower.{given, took_by, totals}
-use Rattle.df_ends.proofs.Ranked.{turns_go_over}
-use Rattle.df_ends.proofs.Streams.{size_next, size_here}
+use Rattle.df_rank.proofs.Ranked.{turns_go_over}
+use Rattle.df_rank.proofs.Streams.{size_next, size_here}
 use Rattle.df_lockstep.specs.Rates.{HasNoLoops, greatest, longest_source, phases_at_most}
 use Rattle.df_lockstep.proofs.Driven.{IsDriven, IsSource, source_or_driven, source_limit, end_within}
 use Rattle.df_lockstep.proofs.Levels.{level_over}

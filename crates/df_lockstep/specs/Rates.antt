@@ -7,7 +7,7 @@ use Rattle.df_cells.specs.WellFormed.{number_or_none}
 use Rattle.df_cells.specs.Paths.{mark_of}
 use Rattle.df_labels.specs.Members.{Labels}
 use Rattle.df_machine.specs.States.{firings}
-use Rattle.df_ends.specs.Ranks.{HasRanks}
+use Rattle.df_rank.specs.Ranks.{HasRanks}
 use Rattle.df_lockstep.specs.Phases.{after_phases, choices_of_phases}
 
 -- firing number i of a cell happens in phase k

@@ -29,7 +29,7 @@ use Rattle.df_stages.specs.Flows.{AreBalancedArcs}
 use Rattle.df_rank.specs.Zones.{StaysInZone, KeepsZones}
 use Rattle.df_labels.specs.Realizes.{IsAll, Tells, Realizes}
 use Rattle.df_rank.specs.Hold.{hold, held}
-use Rattle.df_rank.specs.Laws.{ZonesGivePlaces, RealizingCellsAreGood, HoldIsGood}
+use Rattle.df_rank.specs.Laws.{ZonesGivePlaces, HoldRealizes}
 
 -- ---- arcs
 
@@ -438,5 +438,5 @@ realizes give = record {
   tells = λ inputs valid. subst (λ l. Tells hold l (held l)) (sym (one_list inputs valid)) (tells_with give (get_or (get_or inputs 0 []) 0 (Error error.Undef)));
 }
 
-pub hold_is_good : ZonesGivePlaces → RealizingCellsAreGood → HoldIsGood
-hold_is_good give good = (formed, balanced, realizes give, good hold held formed balanced (realizes give))
+pub hold_realizes : ZonesGivePlaces → HoldRealizes
+hold_realizes give = (formed, balanced, realizes give)

@@ -1,6 +1,5 @@
 pub mod Ranks
 pub mod Suits
-pub mod Good
 pub mod Zones
 pub mod Hold
 pub mod Laws

@@ -1,5 +1,0 @@
-use Rattle.df_ends.proofs.Ranked.{balanced_cells_have_ranks}
-use Rattle.df_ends.proofs.laws.balanced_cells_have_ranks.Goals as goal
-
-pub returns : goal.returns
-returns c = balanced_cells_have_ranks c.heights_rise.ensures c.heights_stay.ensures
