@@ -2,3 +2,4 @@ pub mod Lifted
 pub mod Runs
 pub mod Taken
 pub mod Following
+pub mod Countdown
