@@ -275,7 +275,7 @@ whole_one = record {
 first_right : OfCells (λ c. 0 < length (turned 1 None c)
     → (firing_at (turned 1 None c) 0).answer
     ≡ as_member (answer_at countdown two 0 c (values (firing_at (turned 1 None c) 0).taken)))
-unfolding answer tables.answer least greatest
+unfolding answer tables.answer least greatest tables.comparison
 first_right = of_cells (λ h. refl) (λ h. refl) (λ h. refl) (λ h. refl) (λ h. refl) (λ h. refl) (λ h. refl)
     (λ c h. absurd (omega (arith, h)))
 
@@ -303,7 +303,7 @@ whole_two = record {
 
 -- all firings answer as the kinds do
 all_right : OfCells (λ c. AllRight c 0 (turned 2 (Some (number 0)) c))
-unfolding answer tables.answer least greatest
+unfolding answer tables.answer least greatest tables.comparison
 all_right = of_cells (refl, tt) (refl, (refl, (refl, tt))) (refl, (refl, (refl, tt))) (refl, (refl, (refl, tt)))
     (refl, (refl, (refl, tt))) (refl, (refl, (refl, tt))) (refl, tt) (λ c. tt)
 
@@ -318,7 +318,7 @@ all_over n = of_cells (λ w few none. no_limit none)
     (λ w few none. record { port = 0; from = record { 0 = 2 }; fed = refl; wanted = refl; missing = refl })
     (λ w few none. no_limit none) (λ c w few none. absurd (omega (arith, w)))
   where
-    no_limit : {A : Type 0} → Some 1 ≡ None → A
+    no_limit : {A : Type 0} → Some (suc zero) ≡ None → A
     no_limit none = absurd (cc)
 
 -- ---- for each number of firings
@@ -347,5 +347,12 @@ countdown_meets (suc zero) = meets 1 (turned 1 None) whole_one right
     right c zero few within sure = each_cell _ first_right c within
     right c (suc i) few within sure = absurd (omega (arith, few))
 countdown_meets (suc (suc n)) = meets (suc (suc n)) (turned 2 (Some (number 0))) whole_two
-    (λ c i few within sure. right_at c 0 i (turned 2 (Some (number 0)) c) (each_cell _ all_right c) within)
-    (all_over (suc (suc n)))
+    (λ c i few within sure. right c i within) (all_over (suc (suc n)))
+  where
+    right : (c i : ℕ) → i < length (turned 2 (Some (number 0)) c) → (firing_at (turned 2 (Some (number 0)) c) i).answer
+        ≡ as_member (answer_at countdown two i c (values (firing_at (turned 2 (Some (number 0)) c) i).taken))
+    right c i within =
+        let from_zero : 0 + i ≡ i = omega arith in
+        let label = turned 2 (Some (number 0)) c in
+        subst (λ j. (firing_at label i).answer ≡ as_member (answer_at countdown two j c (values (firing_at label i).taken)))
+        from_zero (right_at c 0 i label (each_cell _ all_right c) within)
