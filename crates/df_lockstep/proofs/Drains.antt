@@ -1,5 +1,5 @@
 -- Without loops a run keeps the full rate, and is drained in time.
-use Rattle.std.proofs.Common.{◌≡◌, ℕ, suc, ◌-◌, ◌+◌, ◌*◌, ◌<◌, ◌≤◌, false, List, [], get_or, length, sym, ap, subst}
+use Rattle.std.proofs.Common.{◌≡◌, ℕ, suc, ◌+◌, ◌*◌, ◌<◌, ◌≤◌, false, List, [], get_or, length, sym, ap, subst}
 use Rattle.std.proofs.Common.{inl, inr, arith}
 use Rattle.std.proofs.lemmas.Bool.{cases_Bool, cases_lt}
 use Rattle.df_values.specs.declared.values.Value.{Value}
@@ -19,7 +19,7 @@ use Rattle.df_rank.specs.Ranks.{level}
 use Rattle.df_ends.specs.Laws.{RealizingForAllIsGood}
 use Rattle.df_rank.proofs.Counting.{rises}
 use Rattle.df_lockstep.specs.Phases.{after_phases, choices_of_phases}
-use Rattle.df_lockstep.specs.Rates.{HappensBy, phases_at_most, events_in_time}
+use Rattle.df_lockstep.specs.Rates.{HappensBy, phases_at_most}
 use Rattle.df_lockstep.specs.Laws.{PhasesAreRuns, PhasesKeepRanks, Covers, KeepsFullRate, DrainsInTime, WholeInTime}
 use Rattle.df_lockstep.proofs.Levels.{levels_rank}
 use Rattle.df_lockstep.proofs.Short.{level_small}

@@ -2,11 +2,9 @@
 use Rattle.std.proofs.Common.{◌≡◌, ◌⊎◌, ℕ, zero, suc, ◌+◌, ◌<◌, ◌≤◌, ◌==◌, not, Bool, true, false, cond, nat_lt, List, [], ◌∷◌, get_or, length, map, Option, Some, None, refl, sym, ◌∙◌, ap, subst, inl, inr, arith}
 use Rattle.std.specs.Prelude.{is_some, ◌&&◌, pos, ◌+ℤ◌}
 use Rattle.std.specs.List.{AllByRecursion, range_with_len}
-use Rattle.std.proofs.lemmas.List.{length-map}
 use Rattle.std.proofs.lemmas.Bool.{cases_Bool, ltb-true, ltb-false}
 use Rattle.df_values.specs.declared.values.Value.{Value}
 use Rattle.df_values.specs.declared.values.Value.TheVariants.{Int, Truth}
-use Rattle.df_values.specs.Inputs.{AreValid}
 use Rattle.df_cells.specs.declared.cells.CellId.{CellId}
 use Rattle.df_cells.specs.declared.cells.Dest.{Dest}
 use Rattle.df_cells.specs.declared.cells.Cell.{Cell}
@@ -17,12 +15,12 @@ use Rattle.df_cells.specs.declared.kinds.Family.{Family}
 use Rattle.df_cells.specs.declared.kinds.Family.TheVariants as of
 use Rattle.df_cells.specs.Families.{family}
 use Rattle.df_cells.specs.Firings.{Operands, family_wants, wants, with_constants}
-use Rattle.df_cells.specs.Cells.{cell_at, port_of, producer_of, is_buf, values_of, declarations}
+use Rattle.df_cells.specs.Cells.{cell_at, port_of, producer_of, is_buf, values_of}
 use Rattle.df_cells.specs.Shifts.{origin, controls, gate_part, merge_part, merge_place}
 use Rattle.df_cells.specs.WellFormed.{WellFormed, number_or_none}
 use Rattle.df_labels.specs.Histories.{listed}
 use Rattle.df_labels.specs.Labels.{block_turn, source_list}
-use Rattle.df_labels.specs.Members.{Member, Firing, Labels, LabelsMeet, IsWanted, Pairs, values, firing_at, in_order_from}
+use Rattle.df_labels.specs.Members.{Firing, Labels, LabelsMeet, IsWanted, Pairs, values, firing_at, in_order_from}
 use Rattle.df_labels.specs.Members.{turn_at}
 use Rattle.df_labels.specs.MemberPlaces.{HasPlaces}
 use Rattle.df_stages.specs.Balance.{IsBalanced}

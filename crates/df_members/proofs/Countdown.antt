@@ -10,7 +10,6 @@ use Rattle.df_values.specs.Values.{least, greatest}
 use Rattle.df_values.specs.Tables as tables
 use Rattle.df_cells.specs.declared.cells.Cell.{Cell}
 use Rattle.df_cells.specs.declared.cells.CellId.{CellId}
-use Rattle.df_cells.specs.declared.cells.Dest.{Dest}
 use Rattle.df_cells.specs.Kinds.{limit}
 use Rattle.df_cells.specs.Firings.{answer, wants, with_constants}
 use Rattle.df_cells.specs.Cells.{cell_at, cell_from, port_of, producer_of, loaded_at}

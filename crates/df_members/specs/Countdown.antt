@@ -1,6 +1,6 @@
 -- A worked loop by values: cells that count down from the value of their input to 0, and labels for every number of
 -- firings.
-use Rattle.std.specs.Prelude.{ℕ, zero, suc, ◌+◌, pos, negsuc, true, false, Bool, List, [], ◌∷◌, ◌++◌, take}
+use Rattle.std.specs.Prelude.{ℕ, zero, suc, pos, negsuc, true, false, Bool, List, [], ◌∷◌, ◌++◌, take}
 use Rattle.std.specs.Prelude.{Option, Some, None, codes}
 use Rattle.df_values.specs.declared.values.Value.{Value}
 use Rattle.df_values.specs.declared.values.Value.TheVariants.{Int, Truth}
@@ -30,7 +30,7 @@ abbrev pub countdown : List Cell
 countdown =
     cell (kind.In (codes "A") Integer 1) [] (port_of 1 2 ∷ [])
     ∷ cell kind.Merge (Loaded (record { 0 = 2 }) (Truth false) ∷ from 4 ∷ from 0 ∷ [])
-        (port_of 2 0 ∷ port_of 3 0 ∷ port_of 5 1 ∷ [])
+    (port_of 2 0 ∷ port_of 3 0 ∷ port_of 5 1 ∷ [])
     ∷ cell kind.Gt (from 1 ∷ Constant (number 0) ∷ []) (port_of 1 0 ∷ port_of 4 0 ∷ port_of 5 0 ∷ [])
     ∷ cell kind.Sub (from 1 ∷ Constant (number 1) ∷ []) (port_of 4 1 ∷ [])
     ∷ cell kind.Tgate (from 2 ∷ from 3 ∷ []) (port_of 1 1 ∷ [])
